@@ -1,0 +1,7 @@
+pub mod Ints
+pub mod BigEndianLaws
+pub mod SignedLaws
+pub mod SizeLaws
+pub mod SaturatingLaws
+pub mod ScaleLaws
+pub mod SumsLaws

@@ -1,0 +1,43 @@
+-- Two bytes read are the number of two bytes. Assumes nothing.
+use native.Mathlib.Omega.{arith}
+use Rattle.ints.proofs.BigEndianLaws.{natAt-2}
+use borrow.Author.Needs.{needs}
+use Rattle.ints.proofs.big_endian.read_u16.Statement.{statement}
+use Rattle.ints.proofs.big_endian.read_u16.Tie as tie
+
+shared-slice-read-wide : tie.Need-shared-slice-read-wide
+shared-slice-read-wide c = search needs
+
+wide-requires : tie.Need-wide-requires
+wide-requires c κs = search needs
+
+mul-result : tie.Need-mul-result
+mul-result c = search needs
+
+add-wide : tie.Need-add-wide
+add-wide c = search needs
+
+shared-slice-read-wide-2 : tie.Need-shared-slice-read-wide-2
+shared-slice-read-wide-2 c = search needs
+
+wide-requires-2 : tie.Need-wide-requires-2
+wide-requires-2 c κs = search needs
+
+add-result : tie.Need-add-result
+add-result c = search needs
+
+returns : tie.Need-returns
+returns c = omega (arith, natAt-2 (c .before .before .before .before .before .args .s .now) (c .before .before .before .before .before .args .at))
+
+pub read-u16-spec : {M : Type 1} → statement M
+read-u16-spec =
+    tie.close
+    (tie.spec
+    shared-slice-read-wide
+    wide-requires
+    mul-result
+    add-wide
+    shared-slice-read-wide-2
+    wide-requires-2
+    add-result
+    returns)

@@ -1,0 +1,65 @@
+-- A write to a slot's bytes is a change of one field: one law for the four bytes, one for the four measures. Assumes nothing.
+use mathlib.Core.Path.{_≡_, refl}
+use mathlib.Core.List.{List, []}
+use Prim.Native.Nat.{ℕ, _<_}
+use native.Mathlib.Omega.{arith}
+use lib.IntN.{ℤ, pos}
+use lib.ListN.{length, getD, set}
+use Rattle.ints.specs.BigEndian.{digits, natAt, withNat}
+use Rattle.ints.specs.Signed.{InBytes, intAt, signed, withInt}
+use Rattle.ints.proofs.BigEndianLaws.{natAt-digits}
+use Rattle.ints.proofs.SignedLaws.{intAt-digits}
+use Rattle.slots.specs.Slot.{Slot, slotOf, slotSize}
+use Rattle.slots.specs.Fields.{attached, byteAt, byteOf, measure, measureAt, withByte, withChain, withGlyph, withMeasure}
+use Rattle.slots.specs.Start.{unattached}
+use Rattle.slots.specs.declared.axis.Axis.{Axis}
+use Rattle.slots.specs.declared.axis.Axis.the-variants.{X, Y}
+use Rattle.slots.specs.declared.fields.ByteField.{ByteField}
+use Rattle.slots.specs.declared.fields.ByteField.the-variants.{LigatureId, Component, Flags, AttachType}
+use Rattle.slots.specs.declared.fields.Measure.{Measure}
+use Rattle.slots.specs.declared.fields.Measure.the-variants.{Advance, Offset}
+use Rattle.slots.proofs.Cells.{by-cells}
+
+-- ---- reading
+pub byte-get : (f : ByteField) (q : List ℕ) → getD q (byteAt f) 0 ≡ byteOf f (slotOf q)
+unfolding slotOf
+byte-get LigatureId q = refl
+byte-get Component q = refl
+byte-get Flags q = refl
+byte-get AttachType q = refl
+
+pub measure-get : (m : Measure) (a : Axis) (q : List ℕ) → intAt 4 q (measureAt m a) ≡ measure m a (slotOf q)
+unfolding slotOf
+measure-get Advance X q = refl
+measure-get Advance Y q = refl
+measure-get Offset X q = refl
+measure-get Offset Y q = refl
+
+-- ---- writing
+pub byte-put : (f : ByteField) (n : ℕ) (q : List ℕ) → length q ≡ slotSize → slotOf (set q (byteAt f) n) ≡ withByte f n (slotOf q)
+unfolding slotOf natAt intAt
+byte-put LigatureId n = by-cells (λ (q : List ℕ). slotOf (set q 2 n) ≡ withByte LigatureId n (slotOf q)) (λ g. refl)
+byte-put Component n = by-cells (λ (q : List ℕ). slotOf (set q 3 n) ≡ withByte Component n (slotOf q)) (λ g. refl)
+byte-put Flags n = by-cells (λ (q : List ℕ). slotOf (set q 4 n) ≡ withByte Flags n (slotOf q)) (λ g. refl)
+byte-put AttachType n = by-cells (λ (q : List ℕ). slotOf (set q 5 n) ≡ withByte AttachType n (slotOf q)) (λ g. refl)
+
+pub glyph-put : (n : ℕ) → n < 65536 → (q : List ℕ) → length q ≡ slotSize → slotOf (withNat 2 q 0 n) ≡ withGlyph n (slotOf q)
+unfolding slotOf natAt intAt withNat digits
+glyph-put n h = by-cells (λ (q : List ℕ). slotOf (withNat 2 q 0 n) ≡ withGlyph n (slotOf q)) (λ g. rw (natAt-digits 2 n h []))
+
+pub chain-put : (z : ℤ) → InBytes 2 z → (q : List ℕ) → length q ≡ slotSize → slotOf (withInt 2 q 6 z) ≡ withChain z (slotOf q)
+unfolding slotOf natAt intAt withNat withInt digits
+chain-put z h = by-cells (λ (q : List ℕ). slotOf (withInt 2 q 6 z) ≡ withChain z (slotOf q)) (λ g. rw (intAt-digits 2 z (omega arith) h []))
+
+module _ (z : ℤ) (h : InBytes 4 z) where
+  pub measure-put : (m : Measure) (a : Axis) (q : List ℕ) → length q ≡ slotSize → slotOf (withInt 4 q (measureAt m a) z) ≡ withMeasure m a z (slotOf q)
+  unfolding slotOf natAt intAt withNat withInt digits
+  measure-put Advance X = by-cells (λ (q : List ℕ). slotOf (withInt 4 q 8 z) ≡ withMeasure Advance X z (slotOf q)) (λ g. rw (intAt-digits 4 z (omega arith) h []))
+  measure-put Advance Y = by-cells (λ (q : List ℕ). slotOf (withInt 4 q 12 z) ≡ withMeasure Advance Y z (slotOf q)) (λ g. rw (intAt-digits 4 z (omega arith) h []))
+  measure-put Offset X = by-cells (λ (q : List ℕ). slotOf (withInt 4 q 16 z) ≡ withMeasure Offset X z (slotOf q)) (λ g. rw (intAt-digits 4 z (omega arith) h []))
+  measure-put Offset Y = by-cells (λ (q : List ℕ). slotOf (withInt 4 q 20 z) ≡ withMeasure Offset Y z (slotOf q)) (λ g. rw (intAt-digits 4 z (omega arith) h []))
+
+-- type and chain set to 0
+pub clear-put : (p : List ℕ) → length p ≡ slotSize → slotOf (set (set (set p 5 0) 6 0) 7 0) ≡ unattached (slotOf p)
+unfolding slotOf natAt intAt signed
+clear-put = by-cells (λ (p : List ℕ). slotOf (set (set (set p 5 0) 6 0) 7 0) ≡ unattached (slotOf p)) (λ g. refl)

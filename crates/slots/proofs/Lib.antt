@@ -1,0 +1,7 @@
+pub mod Cells
+pub mod SlotLaws
+pub mod LineLaws
+pub mod FieldLaws
+pub mod ParentLaws
+pub mod SearchLaws
+pub mod TurnLaws

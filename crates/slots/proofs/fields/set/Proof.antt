@@ -1,0 +1,65 @@
+-- A write of four bytes is a change of one measure. Assumes nothing.
+use Prim.Native.Nat.{ℕ, _+_, _-_, _*_, _/_, _≤_, _<_}
+use native.Mathlib.Omega.{arith}
+use mathlib.Core.Path.{_≡_, refl, sym, ap, _∙_}
+use lib.ListN.{length}
+use borrow.Rule.Slice.PartMut.{midOf}
+use Rattle.slots.specs.Slot.{slotOf, slotSize}
+use Rattle.ints.specs.Signed.{val, withInt}
+use Rattle.ints.proofs.SignedLaws.{signed-in}
+use Rattle.slots.specs.Fields.{withMeasure}
+use Rattle.slots.proofs.LineLaws.{length-part, line-update}
+use Rattle.slots.proofs.FieldLaws.{measure-put}
+use borrow.Author.Needs.{needs}
+use Rattle.slots.proofs.fields.set.Statement.{statement}
+use Rattle.slots.proofs.fields.set.Tie as tie
+
+measure-at-requires : tie.Need-measure-at-requires
+measure-at-requires c κs = search needs
+
+mul-from : tie.Need-mul-from
+mul-from c = search needs
+
+add-to : tie.Need-add-to
+add-to c = search needs
+
+sub-write-i32 : tie.Need-sub-write-i32
+sub-write-i32 c = search needs
+
+part-write-i32-start : tie.Need-part-write-i32-start
+part-write-i32-start c = search needs
+
+part-write-i32-end : tie.Need-part-write-i32-end
+part-write-i32-end c = search needs
+
+write-i32-requires : tie.Need-write-i32-requires
+write-i32-requires c κs = search needs
+
+same-length : tie.Need-same-length
+same-length c = search needs
+
+returns : tie.Need-returns
+returns c =
+    let a = c .before .before .before .before .before .before .args in
+    let call = c .before .before .write-i32 in
+    let l = a .line .now in
+    let i = a .i in
+    let k = i * 24 + 24 - i * 24 in
+    let e : k ≡ slotSize = omega arith in
+    let m = midOf (i * 24) k l in
+    let lm : length m ≡ slotSize = rw e (length-part l i (omega arith)) in
+    line-update (withMeasure (a .m) (a .a) (val (a .v))) l (call .last .0) i k (omega arith) e (call .kept .0) (ap slotOf (call .ensures ∙ ap (λ (n : ℕ). withInt 4 m n (val (a .v))) (c .before .before .before .before .measure-at .ensures .0)) ∙ measure-put (val (a .v)) (signed-in 4 (a .v) (omega arith) (omega arith)) (a .m) (a .a) m lm)
+
+pub set-spec : {M : Type 1} → statement M
+set-spec =
+    tie.close
+    (tie.spec
+    measure-at-requires
+    mul-from
+    add-to
+    sub-write-i32
+    part-write-i32-start
+    part-write-i32-end
+    write-i32-requires
+    same-length
+    returns)

@@ -1,0 +1,59 @@
+-- A byte put into the lent slot is a change of one field. Assumes nothing.
+use Prim.Native.Nat.{ℕ, _+_, _-_, _*_, _/_, _≤_, _<_}
+use native.Mathlib.Omega.{arith}
+use mathlib.Core.Path.{_≡_, refl, sym, ap, _∙_}
+use lib.ListN.{length}
+use borrow.Rule.Slice.PartMut.{midOf}
+use Rattle.slots.specs.Slot.{slotOf, slotSize}
+use Rattle.slots.specs.Fields.{withByte}
+use Rattle.slots.proofs.LineLaws.{length-part, line-update}
+use Rattle.slots.proofs.FieldLaws.{byte-put}
+use borrow.Author.Needs.{needs}
+use Rattle.slots.proofs.fields.set_byte.Statement.{statement}
+use Rattle.slots.proofs.fields.set_byte.Tie as tie
+
+mul-a : tie.Need-mul-a
+mul-a c = search needs
+
+add-b : tie.Need-add-b
+add-b c = search needs
+
+sub-put-byte : tie.Need-sub-put-byte
+sub-put-byte c = search needs
+
+part-put-byte-start : tie.Need-part-put-byte-start
+part-put-byte-start c = search needs
+
+part-put-byte-end : tie.Need-part-put-byte-end
+part-put-byte-end c = search needs
+
+put-byte-requires : tie.Need-put-byte-requires
+put-byte-requires c κs = search needs
+
+same-length : tie.Need-same-length
+same-length c = search needs
+
+returns : tie.Need-returns
+returns c =
+    let a = c .before .before .before .before .before .args in
+    let call = c .before .before .put-byte in
+    let l = a .line .now in
+    let i = a .i in
+    let k = i * 24 + 24 - i * 24 in
+    let e : k ≡ slotSize = omega arith in
+    let m = midOf (i * 24) k l in
+    let lm : length m ≡ slotSize = rw e (length-part l i (omega arith)) in
+    line-update (withByte (a .f) (a .n)) l (call .last .0) i k (omega arith) e (call .kept .0) (call .ensures)
+
+pub set-byte-spec : {M : Type 1} → statement M
+set-byte-spec =
+    tie.close
+    (tie.spec
+    mul-a
+    add-b
+    sub-put-byte
+    part-put-byte-start
+    part-put-byte-end
+    put-byte-requires
+    same-length
+    returns)

@@ -1,0 +1,60 @@
+-- A write of two bytes is a change of the chain. Assumes nothing.
+use Prim.Native.Nat.{ℕ, _+_, _-_, _*_, _/_, _≤_, _<_}
+use native.Mathlib.Omega.{arith}
+use mathlib.Core.Path.{_≡_, refl, sym, ap, _∙_}
+use lib.ListN.{length}
+use borrow.Rule.Slice.PartMut.{midOf}
+use Rattle.slots.specs.Slot.{slotOf, slotSize}
+use Rattle.ints.specs.Signed.{val}
+use Rattle.slots.specs.Fields.{withChain}
+use Rattle.slots.proofs.LineLaws.{length-part, line-update}
+use Rattle.slots.proofs.FieldLaws.{chain-put}
+use borrow.Author.Needs.{needs}
+use Rattle.slots.proofs.fields.set_chain.Statement.{statement}
+use Rattle.slots.proofs.fields.set_chain.Tie as tie
+
+mul-a : tie.Need-mul-a
+mul-a c = search needs
+
+add-b : tie.Need-add-b
+add-b c = search needs
+
+sub-write-i16 : tie.Need-sub-write-i16
+sub-write-i16 c = search needs
+
+part-write-i16-start : tie.Need-part-write-i16-start
+part-write-i16-start c = search needs
+
+part-write-i16-end : tie.Need-part-write-i16-end
+part-write-i16-end c = search needs
+
+write-i16-requires : tie.Need-write-i16-requires
+write-i16-requires c κs = search needs
+
+same-length : tie.Need-same-length
+same-length c = search needs
+
+returns : tie.Need-returns
+returns c =
+    let a = c .before .before .before .before .before .args in
+    let call = c .before .before .write-i16 in
+    let l = a .line .now in
+    let i = a .i in
+    let k = i * 24 + 24 - i * 24 in
+    let e : k ≡ slotSize = omega arith in
+    let m = midOf (i * 24) k l in
+    let lm : length m ≡ slotSize = rw e (length-part l i (omega arith)) in
+    line-update (withChain (val (a .v))) l (call .last .0) i k (omega arith) e (call .kept .0) (ap slotOf (call .ensures) ∙ chain-put (val (a .v)) (omega arith) m lm)
+
+pub set-chain-spec : {M : Type 1} → statement M
+set-chain-spec =
+    tie.close
+    (tie.spec
+    mul-a
+    add-b
+    sub-write-i16
+    part-write-i16-start
+    part-write-i16-end
+    write-i16-requires
+    same-length
+    returns)

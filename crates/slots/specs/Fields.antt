@@ -1,0 +1,125 @@
+-- The fields of a slot: reading one, and changing one with all else as it was. Assumes nothing.
+use mathlib.Core.Bool.{Bool}
+use Prim.Native.Nat.{ℕ, _/_, _%_}
+use lib.Dec.{eqb}
+use lib.IntN.{ℤ, pos}
+use Rattle.slots.specs.Slot.{Slot}
+use Rattle.slots.specs.declared.axis.Axis.{Axis}
+use Rattle.slots.specs.declared.axis.Axis.the-variants.{X, Y}
+use Rattle.slots.specs.declared.fields.ByteField.{ByteField}
+use Rattle.slots.specs.declared.fields.ByteField.the-variants.{LigatureId, Component, Flags, AttachType}
+use Rattle.slots.specs.declared.fields.Flag.{Flag}
+use Rattle.slots.specs.declared.fields.Flag.the-variants.{Seen, Mark, Multiplied}
+use Rattle.slots.specs.declared.fields.Measure.{Measure}
+use Rattle.slots.specs.declared.fields.Measure.the-variants.{Advance, Offset}
+
+-- ---- what a slot is: glyph, ligature id, component, flags
+-- the slot with these, all else as it was
+abbrev pub named : ℕ → ℕ → ℕ → ℕ → Slot → Slot
+named g i c f s =
+    record {
+      glyph = g;
+      ligatureId = i;
+      component = c;
+      flags = f;
+      attachType = s .attachType;
+      chain = s .chain;
+      xAdvance = s .xAdvance;
+      yAdvance = s .yAdvance;
+      xOffset = s .xOffset;
+      yOffset = s .yOffset;
+    }
+
+abbrev pub withGlyph : ℕ → Slot → Slot
+withGlyph g s = named g (s .ligatureId) (s .component) (s .flags) s
+
+-- is the flag set in a byte of flags? bit 0 seen, bit 1 mark, bit 2 multiplied
+abbrev pub flagIn : Flag → ℕ → Bool
+flagIn Seen n = eqb (n % 2) 1
+flagIn Mark n = eqb (n / 2 % 2) 1
+flagIn Multiplied n = eqb (n / 4 % 2) 1
+
+abbrev pub flagOf : Flag → Slot → Bool
+flagOf f s = flagIn f (s .flags)
+
+-- ---- how it is attached: type and chain
+-- attached by the type t, with the parent c slots on
+abbrev pub attached : ℕ → ℤ → Slot → Slot
+attached t c s =
+    record {
+      glyph = s .glyph;
+      ligatureId = s .ligatureId;
+      component = s .component;
+      flags = s .flags;
+      attachType = t;
+      chain = c;
+      xAdvance = s .xAdvance;
+      yAdvance = s .yAdvance;
+      xOffset = s .xOffset;
+      yOffset = s .yOffset;
+    }
+
+abbrev pub withChain : ℤ → Slot → Slot
+withChain c s = attached (s .attachType) c s
+
+-- ---- the four fields of one byte
+abbrev pub byteOf : ByteField → Slot → ℕ
+byteOf LigatureId s = s .ligatureId
+byteOf Component s = s .component
+byteOf Flags s = s .flags
+byteOf AttachType s = s .attachType
+
+abbrev pub withByte : ByteField → ℕ → Slot → Slot
+withByte LigatureId n s = named (s .glyph) n (s .component) (s .flags) s
+withByte Component n s = named (s .glyph) (s .ligatureId) n (s .flags) s
+withByte Flags n s = named (s .glyph) (s .ligatureId) (s .component) n s
+withByte AttachType n s = attached n (s .chain) s
+
+-- ---- where it is: advances and offsets
+-- the slot with these, all else as it was
+abbrev pub moved : ℤ → ℤ → ℤ → ℤ → Slot → Slot
+moved xa ya xo yo s =
+    record {
+      glyph = s .glyph;
+      ligatureId = s .ligatureId;
+      component = s .component;
+      flags = s .flags;
+      attachType = s .attachType;
+      chain = s .chain;
+      xAdvance = xa;
+      yAdvance = ya;
+      xOffset = xo;
+      yOffset = yo;
+    }
+
+-- the advance or the offset on an axis
+abbrev pub measure : Measure → Axis → Slot → ℤ
+measure Advance X s = s .xAdvance
+measure Advance Y s = s .yAdvance
+measure Offset X s = s .xOffset
+measure Offset Y s = s .yOffset
+
+abbrev pub withMeasure : Measure → Axis → ℤ → Slot → Slot
+withMeasure Advance X z s = moved z (s .yAdvance) (s .xOffset) (s .yOffset) s
+withMeasure Advance Y z s = moved (s .xAdvance) z (s .xOffset) (s .yOffset) s
+withMeasure Offset X z s = moved (s .xAdvance) (s .yAdvance) z (s .yOffset) s
+withMeasure Offset Y z s = moved (s .xAdvance) (s .yAdvance) (s .xOffset) z s
+
+abbrev pub advance : Axis → Slot → ℤ
+advance a s = measure Advance a s
+
+abbrev pub offset : Axis → Slot → ℤ
+offset a s = measure Offset a s
+
+-- ---- where in a slot's bytes a field is
+abbrev pub byteAt : ByteField → ℕ
+byteAt LigatureId = 2
+byteAt Component = 3
+byteAt Flags = 4
+byteAt AttachType = 5
+
+abbrev pub measureAt : Measure → Axis → ℕ
+measureAt Advance X = 8
+measureAt Advance Y = 12
+measureAt Offset X = 16
+measureAt Offset Y = 20

@@ -1,0 +1,32 @@
+-- What a slot hangs on: the parent is slot number plus chain. Assumes nothing.
+use mathlib.Core.List.{List}
+use Prim.Native.Nat.{ℕ, zero, suc}
+use lib.Dec.{ltb}
+use lib.IntN.{ℤ, pos, negsuc, _+ℤ_}
+use lib.ListN.{length}
+use Rattle.ints.specs.Choice.{if_then_else_}
+use Rattle.slots.specs.Slot.{Slot}
+use Rattle.slots.specs.Line.{slot}
+use Rattle.slots.specs.declared.parent.Parent.{Parent}
+use Rattle.slots.specs.declared.parent.Parent.the-variants.{None, Outside, At}
+
+-- the slot at place z of a line of n slots
+abbrev pub placed : ℕ → ℤ → Parent
+placed n (pos j) = if ltb j n then At j else Outside
+placed n (negsuc j) = Outside
+
+-- what slot i of a line of n slots hangs on, by its chain: nothing where the chain is 0
+abbrev pub parentBy : ℕ → ℕ → ℤ → Parent
+parentBy n i (pos zero) = None
+parentBy n i (pos (suc c)) = placed n (pos i +ℤ pos (suc c))
+parentBy n i (negsuc c) = placed n (pos i +ℤ negsuc c)
+
+-- what slot i hangs on: nothing, something outside the line, or the slot at a place of the line
+unfoldable pub parent : List Slot → ℕ → Parent
+parent ss i = parentBy (length ss) i (slot ss i .chain)
+
+-- one thing for each kind of parent
+abbrev pub byParent : {A : Type 0} → Parent → A → A → (ℕ → A) → A
+byParent None a b f = a
+byParent Outside a b f = b
+byParent (At j) a b f = f j

@@ -1,0 +1,11 @@
+-- Starting a line: every chain and type becomes 0, and nothing else changes. Assumes nothing.
+use mathlib.Core.List.{List, map}
+use lib.IntN.{pos}
+use Rattle.slots.specs.Slot.{Slot}
+use Rattle.slots.specs.Fields.{attached}
+
+abbrev pub unattached : Slot → Slot
+unattached s = attached 0 (pos 0) s
+
+abbrev pub started : List Slot → List Slot
+started ss = map unattached ss
