@@ -1,0 +1,52 @@
+-- An outcome leaves one answer and one line, and how a call reaches it. Assumes nothing.
+use mathlib.Core.Path.{_≡_, refl, sym, ap, _∙_}
+use mathlib.Core.Bool.{Bool, true, false, not, _||_}
+use mathlib.Core.List.{List}
+use Prim.Native.Nat.{ℕ, _*_, _%_}
+use lib.Dec.{eqb, ltb}
+use lib.ListN.{length}
+use borrow.Author.Tests.{eqb-true}
+use Rattle.ints.specs.BigEndian.{Bytes}
+use Rattle.slots.specs.Slot.{Slot, slotSize}
+use Rattle.slots.specs.Line.{bytes, slots}
+use Rattle.slots.specs.Checks.{misshapen, mostSlots}
+use Rattle.slots.proofs.LineLaws.{from-slots}
+use Rattle.answers.specs.Said.{Range, Said, applied, declined, done, refused, said, saidDone}
+use Rattle.answers.specs.Outcome.{lineAfter, Outcome}
+use Rattle.answers.specs.declared.Answer.{Answer}
+use Rattle.answers.specs.declared.Done.{Done}
+use Rattle.answers.proofs.SaidLaws.{said-same, saidDone-same}
+
+-- two results that meet the same contract are equal, answer and bytes: of an applying call, and of starting and finishing
+module _ (l : List ℕ) (s : Said) (ss : List Slot) (l₁ l₂ : List ℕ) where
+  pub one-answer : (r₁ r₂ : Answer) → Outcome l s ss (said r₁) l₁ → Outcome l s ss (said r₂) l₂ → (r₁ ≡ r₂) × (l₁ ≡ l₂)
+  one-answer r₁ r₂ p q = (said-same r₁ r₂ (p .answer ∙ sym (q .answer)), p .line ∙ sym (q .line))
+
+  pub one-done : (r₁ r₂ : Done) → Outcome l s ss (saidDone r₁) l₁ → Outcome l s ss (saidDone r₂) l₂ → (r₁ ≡ r₂) × (l₁ ≡ l₂)
+  one-done r₁ r₂ p q = (saidDone-same r₁ r₂ (p .answer ∙ sym (q .answer)), p .line ∙ sym (q .line))
+
+-- a line that isn't misshapen is whole slots
+pub shapely : (l : List ℕ) → misshapen l ≡ false → length l % slotSize ≡ 0
+shapely l e = eqb-true (length l % slotSize) 0 (left (eqb (length l % slotSize) 0) (ltb (mostSlots * slotSize) (length l)) e)
+  where
+    left : (a b : Bool) → not a || b ≡ false → a ≡ true
+    left true b e = refl
+    left false b e = sym e
+
+-- what slots a whole line has afterwards decides its bytes
+pub changed : (l l′ : List ℕ) (ss : List Slot) → misshapen l ≡ false → Bytes l′ → length l′ ≡ length l → slots l′ ≡ ss → l′ ≡ bytes ss
+changed l l′ ss w b n e = from-slots l′ ss (rw n (shapely l w)) b e
+
+-- ---- from what is to be said, and the line, to the outcome
+module _ (l : List ℕ) (s : Said) (ss : List Slot) where
+  pub outcome-refused : (n : ℕ) → s ≡ refused n → Outcome l s ss (refused n) l
+  outcome-refused n e = record { answer = sym e; line = rw e }
+
+  pub outcome-declined : (rs : List Range) → s ≡ declined rs → Outcome l s ss (declined rs) l
+  outcome-declined rs e = record { answer = sym e; line = rw e }
+
+  pub outcome-done : (l′ : List ℕ) → s ≡ done → l′ ≡ bytes ss → Outcome l s ss done l′
+  outcome-done l′ e b = record { answer = sym e; line = rw e b }
+
+  pub outcome-applied : (l′ : List ℕ) (n : ℕ) (rs : List Range) (a : Bool) → s ≡ applied n rs a → l′ ≡ bytes ss → Outcome l s ss (applied n rs a) l′
+  outcome-applied l′ n rs a e b = record { answer = sym e; line = rw e b }

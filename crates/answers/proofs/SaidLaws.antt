@@ -1,0 +1,87 @@
+-- An answer is told by what it says. Assumes nothing.
+use mathlib.Core.Path.{_≡_, refl, sym, ap, _∙_}
+use mathlib.Core.List.{List, [], _∷_}
+use Prim.Native.Nat.{ℕ}
+use lib.Dec.{eqb}
+use Rattle.ints.specs.Choice.{if_then_else_}
+use Rattle.answers.specs.Said.{Range, break, concat, Said, applied, declined, refused, done, range, ranges, refusalNumber, said, saidDone}
+use Rattle.answers.specs.declared.Kind.{Kind}
+use Rattle.answers.specs.declared.Kind.the-variants.{Break, Concat}
+use Rattle.answers.specs.declared.Hazard.{Hazard}
+use Rattle.answers.specs.declared.Hazards.{Hazards}
+use Rattle.answers.specs.declared.Hazards.the-variants.{None, One, Two}
+use Rattle.answers.specs.declared.Refusal.{Refusal}
+use Rattle.answers.specs.declared.Refusal.the-variants.{Line, Direction, Number, Slot, Index, Subtable, Endless}
+use Rattle.answers.specs.declared.Answer.{Answer}
+use Rattle.answers.specs.declared.Answer.the-variants.{Applied, Declined, Refused}
+use Rattle.answers.specs.declared.Done.{Done}
+use Rattle.answers.specs.declared.Done.the-variants.{Done as DoneNow, Refused as NotDone}
+
+-- back from what was said to the answer
+abbrev refusalOf : ℕ → Refusal
+refusalOf n =
+    if eqb n 1 then Line
+    else (if eqb n 2 then Direction
+    else (if eqb n 3 then Number
+    else (if eqb n 4 then Slot
+    else (if eqb n 5 then Index
+    else (if eqb n 6 then Subtable
+    else Endless)))))
+
+abbrev hazard : Range → Hazard
+hazard (break s e) = record { kind = Break; start = s; end = e }
+hazard (concat s e) = record { kind = Concat; start = s; end = e }
+
+abbrev hazards : List Range → Hazards
+hazards [] = None
+hazards (r ∷ []) = One (hazard r)
+hazards (r ∷ q ∷ rs) = Two (hazard r) (hazard q)
+
+abbrev unsaid : Said → Answer
+unsaid (applied n rs a) = Applied n (hazards rs) a
+unsaid (declined rs) = Declined (hazards rs)
+unsaid (refused n) = Refused (refusalOf n)
+unsaid done = Declined None
+
+abbrev unsaidDone : Said → Done
+unsaidDone (refused n) = NotDone (refusalOf n)
+unsaidDone (applied n rs a) = DoneNow
+unsaidDone (declined rs) = DoneNow
+unsaidDone done = DoneNow
+
+refusal-back : (r : Refusal) → refusalOf (refusalNumber r) ≡ r
+refusal-back Line = refl
+refusal-back Direction = refl
+refusal-back Number = refl
+refusal-back Slot = refl
+refusal-back Index = refl
+refusal-back Subtable = refl
+refusal-back Endless = refl
+
+hazard-back : (h : Hazard) → hazard (range h) ≡ h
+hazard-back h = go (h .kind) refl
+  where
+    go : (k : Kind) → h .kind ≡ k → hazard (range h) ≡ h
+    go Break e = rw e
+    go Concat e = rw e
+
+hazards-back : (hs : Hazards) → hazards (ranges hs) ≡ hs
+hazards-back None = refl
+hazards-back (One h) = ap One (hazard-back h)
+hazards-back (Two h g) = cc (hazard-back h, hazard-back g)
+
+said-back : (r : Answer) → unsaid (said r) ≡ r
+said-back (Applied n hs a) = ap (λ x. Applied n x a) (hazards-back hs)
+said-back (Declined hs) = ap Declined (hazards-back hs)
+said-back (Refused r) = ap Refused (refusal-back r)
+
+saidDone-back : (r : Done) → unsaidDone (saidDone r) ≡ r
+saidDone-back DoneNow = refl
+saidDone-back (NotDone r) = ap NotDone (refusal-back r)
+
+-- two answers that say the same are the same
+pub said-same : (r q : Answer) → said r ≡ said q → r ≡ q
+said-same r q e = sym (said-back r) ∙ ap unsaid e ∙ said-back q
+
+pub saidDone-same : (r q : Done) → saidDone r ≡ saidDone q → r ≡ q
+saidDone-same r q e = sym (saidDone-back r) ∙ ap unsaidDone e ∙ saidDone-back q

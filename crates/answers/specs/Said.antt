@@ -1,0 +1,66 @@
+-- What a call says, in document 01's terms, and what each case of code's answers says. Assumes nothing.
+use mathlib.Core.Bool.{Bool}
+use mathlib.Core.List.{List, [], _∷_}
+use Prim.Native.Nat.{ℕ}
+use Rattle.ints.specs.Choice.{if_then_else_}
+use Rattle.answers.specs.declared.Kind.{Kind}
+use Rattle.answers.specs.declared.Kind.the-variants.{Break, Concat}
+use Rattle.answers.specs.declared.Hazard.{Hazard}
+use Rattle.answers.specs.declared.Hazards.{Hazards}
+use Rattle.answers.specs.declared.Hazards.the-variants.{None, One, Two}
+use Rattle.answers.specs.declared.Refusal.{Refusal}
+use Rattle.answers.specs.declared.Refusal.the-variants.{Line, Direction, Number, Slot, Index, Subtable, Endless}
+use Rattle.answers.specs.declared.Answer.{Answer}
+use Rattle.answers.specs.declared.Answer.the-variants.{Applied, Declined, Refused}
+use Rattle.answers.specs.declared.Done.{Done}
+use Rattle.answers.specs.declared.Done.the-variants.{Done as DoneNow, Refused as NotDone}
+
+-- a hazard: "break" or "concat", from a start up to an end, which is not included
+pub data Range : Type 0 where
+  break : ℕ → ℕ → Range
+  concat : ℕ → ℕ → Range
+
+-- What a call says. Applied: the next index, the hazards in order, whether it attached. Declined: one hazard or none. Refused: a number of the table.
+-- Starting and finishing say only "done".
+pub data Said : Type 0 where
+  applied : ℕ → List Range → Bool → Said
+  declined : List Range → Said
+  refused : ℕ → Said
+  done : Said
+
+-- the table of refusals
+abbrev pub refusalNumber : Refusal → ℕ
+refusalNumber Line = 1
+refusalNumber Direction = 2
+refusalNumber Number = 3
+refusalNumber Slot = 4
+refusalNumber Index = 5
+refusalNumber Subtable = 6
+refusalNumber Endless = 7
+
+abbrev pub rangeOf : Kind → ℕ → ℕ → Range
+rangeOf Break s e = break s e
+rangeOf Concat s e = concat s e
+
+abbrev pub range : Hazard → Range
+range h = rangeOf (h .kind) (h .start) (h .end)
+
+abbrev pub ranges : Hazards → List Range
+ranges None = []
+ranges (One h) = range h ∷ []
+ranges (Two h g) = range h ∷ range g ∷ []
+
+-- what an answer says
+abbrev pub said : Answer → Said
+said (Applied n hs a) = applied n (ranges hs) a
+said (Declined hs) = declined (ranges hs)
+said (Refused r) = refused (refusalNumber r)
+
+abbrev pub saidDone : Done → Said
+saidDone DoneNow = done
+saidDone (NotDone r) = refused (refusalNumber r)
+
+-- refused with the number of the first test of a table that holds; where none holds, what follows
+abbrev pub unless : List (Bool × ℕ) → Said → Said
+unless [] s = s
+unless (t ∷ ts) s = if t .0 then refused (t .1) else unless ts s

@@ -1,0 +1,64 @@
+// What the calls answer, in one place: cores and public calls use the same types. specs/Said.antt gives document 01's words and numbers for each case.
+
+// The other glyph of a pair or of a cursive attachment: the slot that the caller names, or none, with the bound that it names instead.
+pub enum Neighbour {
+    At(usize),
+    Missing(usize),
+}
+
+// A hazard is unsafe to break or unsafe to concatenate.
+pub enum Kind {
+    Break,
+    Concat,
+}
+
+// From start up to end, end not included; as named, also past the line's end.
+pub struct Hazard {
+    pub kind: Kind,
+    pub start: usize,
+    pub end: usize,
+}
+
+// In order. A decline has at most one.
+pub enum Hazards {
+    None,
+    One(Hazard),
+    Two(Hazard, Hazard),
+}
+
+// Why a call is refused, in the order of document 01's table, 1 to 7.
+pub enum Refusal {
+    // The line's length is no multiple of 24, or above 24,576.
+    Line,
+    // The direction is above 3.
+    Direction,
+    // s, u or the nesting limit is out of its range.
+    Number,
+    // A slot's id, component or spare flag bits are out of range.
+    Slot,
+    // The index is not in the line, or the neighbour is not where it must be.
+    Index,
+    // The subtable is too long or cut, of unknown format, or a list in it is bad.
+    Subtable,
+    // The cross-offset walk of a mark attachment never ends.
+    Endless,
+}
+
+// What an applying call answers.
+pub enum Answer {
+    Applied {
+        next: usize,
+        hazards: Hazards,
+        attached: bool,
+    },
+    Declined {
+        hazards: Hazards,
+    },
+    Refused(Refusal),
+}
+
+// What starting and finishing answer.
+pub enum Done {
+    Done,
+    Refused(Refusal),
+}
