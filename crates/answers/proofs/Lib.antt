@@ -1,2 +1,3 @@
 pub mod SaidLaws
 pub mod OutcomeLaws
+pub mod TestLaws

@@ -10,9 +10,9 @@ use Rattle.ints.specs.BigEndian.{Bytes}
 use Rattle.slots.specs.Slot.{Slot, slotSize}
 use Rattle.slots.specs.Line.{bytes, slots}
 use Rattle.slots.specs.Checks.{misshapen, mostSlots}
-use Rattle.slots.proofs.LineLaws.{from-slots}
+use Rattle.slots.proofs.LineLaws.{from-slots, same-slots}
 use Rattle.answers.specs.Said.{Range, Said, applied, declined, done, refused, said, saidDone}
-use Rattle.answers.specs.Outcome.{lineAfter, Outcome}
+use Rattle.answers.specs.Outcome.{Effect, lineAfter, Outcome, slotsAfter}
 use Rattle.answers.specs.declared.Answer.{Answer}
 use Rattle.answers.specs.declared.Done.{Done}
 use Rattle.answers.proofs.SaidLaws.{said-same, saidDone-same}
@@ -50,3 +50,20 @@ module _ (l : List ℕ) (s : Said) (ss : List Slot) where
 
   pub outcome-applied : (l′ : List ℕ) (n : ℕ) (rs : List Range) (a : Bool) → s ≡ applied n rs a → l′ ≡ bytes ss → Outcome l s ss (applied n rs a) l′
   outcome-applied l′ n rs a e b = record { answer = sym e; line = rw e b }
+
+-- from a core's effect on the slots of a whole line to the outcome
+pub outcome-of : (l l′ : List ℕ) (s : Said) (new : List Slot) (given : Said) → misshapen l ≡ false → Bytes l → Bytes l′ → length l′ ≡ length l
+    → Effect (slots l) s new given (slots l′) → Outcome l s new given l′
+outcome-of l l′ s new given w b b′ n e = record { answer = e .answer; line = go s (e .slots-are) }
+  where
+    whole : length l % slotSize ≡ 0
+    whole = shapely l w
+
+    whole′ : length l′ % slotSize ≡ 0
+    whole′ = rw n whole
+
+    go : (s : Said) → slots l′ ≡ slotsAfter s (slots l) new → l′ ≡ lineAfter s l new
+    go (applied n hs a) e = from-slots l′ new whole′ b′ e
+    go done e = from-slots l′ new whole′ b′ e
+    go (declined hs) e = same-slots l′ l whole′ whole b′ b e
+    go (refused n) e = same-slots l′ l whole′ whole b′ b e

@@ -17,3 +17,15 @@ lineAfter (refused n) l ss = l
 pub record Outcome (l : List ℕ) (s : Said) (ss : List Slot) (given : Said) (l′ : List ℕ) : Type 0 where
   pub answer : given ≡ s
   pub line : l′ ≡ lineAfter s l ss
+
+-- the slots afterwards: the new ones where the call was applied or done, else as they were
+abbrev pub slotsAfter : Said → List Slot → List Slot → List Slot
+slotsAfter (applied n hs a) ss new = new
+slotsAfter done ss new = new
+slotsAfter (declined hs) ss new = ss
+slotsAfter (refused n) ss new = ss
+
+-- the same for a core, which is told of slots and not of bytes: it said `given`, and the slots ss have become ss′
+pub record Effect (ss : List Slot) (s : Said) (new : List Slot) (given : Said) (ss′ : List Slot) : Type 0 where
+  pub answer : given ≡ s
+  pub slots-are : ss′ ≡ slotsAfter s ss new

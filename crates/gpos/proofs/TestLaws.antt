@@ -1,0 +1,37 @@
+-- What is known once the tests of a line do not hold. Assumes nothing.
+use mathlib.Core.Path.{_≡_, refl}
+use mathlib.Core.Bool.{Bool, true, false, _||_}
+use mathlib.Core.List.{List, [], _∷_}
+use Prim.Native.Nat.{ℕ, _≤_}
+use native.Mathlib.Omega.{arith}
+use borrow.Author.Tests.{ltb-false}
+use lib.Dec.{ltb}
+use Rattle.ints.specs.Scale.{InScale}
+use Rattle.slots.specs.Checks.{misshapen, unranged}
+use Rattle.answers.specs.Said.{done, unless}
+use Rattle.answers.proofs.TestLaws.{clear-first}
+use Rattle.gpos.specs.Tests.{lineTests, offScale}
+
+or-false : (a b : Bool) → a || b ≡ false → (a ≡ false) × (b ≡ false)
+or-false false b e = (refl, e)
+or-false true b e = let z : _≡_ {A = ℕ} 0 1 = cc in absurd (omega arith)
+
+-- the scale is in its range
+pub in-scale : (s u : ℕ) → offScale s u ≡ false → InScale s u
+in-scale s u e =
+    let a = or-false (ltb s 1) (ltb 32768 s || (ltb u 16 || ltb 16384 u)) e in
+    let b = or-false (ltb 32768 s) (ltb u 16 || ltb 16384 u) (a .1) in
+    let c = or-false (ltb u 16) (ltb 16384 u) (b .1) in
+    record { s-low = ltb-false s 1 (a .0); s-high = ltb-false 32768 s (b .0); u-low = ltb-false u 16 (c .0); u-high = ltb-false 16384 u (c .1) }
+
+-- the line is whole slots, and the number is in its range
+pub record Clear (l : List ℕ) (direction : ℕ) (badNumber : Bool) : Type 0 where
+  pub shape : misshapen l ≡ false
+  pub number : badNumber ≡ false
+
+pub clear : (l : List ℕ) (direction : ℕ) (badNumber : Bool) → unless (lineTests l direction badNumber) done ≡ done → Clear l direction badNumber
+clear l direction badNumber e =
+    let one = clear-first (misshapen l) 1 ((ltb 3 direction, 2) ∷ (badNumber, 3) ∷ (unranged l, 4) ∷ []) e in
+    let two = clear-first (ltb 3 direction) 2 ((badNumber, 3) ∷ (unranged l, 4) ∷ []) (one .1) in
+    let three = clear-first badNumber 3 ((unranged l, 4) ∷ []) (two .1) in
+    record { shape = one .0; number = three .0 }

@@ -1,0 +1,41 @@
+// The checks that calls share, each made once, in the order of document 01's table.
+use answers::Done;
+use answers::Refusal;
+ghost use mathlib.Core.Path.{_≡_};
+ghost use Rattle.answers.specs.Said.{done, saidDone, unless};
+ghost use Rattle.gpos.specs.Tests.{lineTests, offScale};
+
+// Is s or u out of its range?
+pub fn is_off_scale(s: u32, u: u32) -> bool
+    ensures { λ r. ⌜ r ≡ offScale s u ⌝ }
+{
+    if s < 1 {
+        return true;
+    }
+    if 32768 < s {
+        return true;
+    }
+    if u < 16 {
+        return true;
+    }
+    16384 < u
+}
+
+// Refusals 1 to 4 of a line, a direction and a number out of range.
+pub fn check_line(line: &[u8], direction: u32, bad_number: bool) -> Done
+    ensures { λ r. ⌜ saidDone r ≡ unless (lineTests (now (line .entry)) direction bad_number) done ⌝ }
+{
+    if slots::checks::is_misshapen(line) {
+        return Done::Refused(Refusal::Line);
+    }
+    if 3 < direction {
+        return Done::Refused(Refusal::Direction);
+    }
+    if bad_number {
+        return Done::Refused(Refusal::Number);
+    }
+    if slots::checks::is_unranged(line) {
+        return Done::Refused(Refusal::Slot);
+    }
+    Done::Done
+}

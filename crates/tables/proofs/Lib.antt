@@ -1,0 +1,6 @@
+pub mod PartLaws
+pub mod SpansLaws
+pub mod CoverageLaws
+pub mod ClassDefLaws
+pub mod AnchorRowsLaws
+pub mod Examples

@@ -1,0 +1,7 @@
+pub mod Part
+pub mod Spans
+pub mod Coverage
+pub mod ClassDef
+pub mod Anchor
+pub mod MarkArray
+pub mod AnchorRows

@@ -1,0 +1,33 @@
+// Tables at offsets, handed on as parts.
+use ints::big_endian::read_u16;
+ghost use mathlib.Core.Path.{_≡_};
+ghost use Prim.Native.Nat.{_<_};
+ghost use Rattle.tables.specs.Part.{childOf, tableAt};
+
+// The table at an offset: the part from there to the end, empty where there is none.
+pub fn table_at<'a>(s: &'a [u8], off: usize) -> &'a [u8]
+    ensures { λ r. ⌜ now r ≡ tableAt (now (s .entry)) off ⌝ }
+{
+    if off == 0 {
+        return &s[..0];
+    }
+    if off <= s.len() {
+        return &s[off..];
+    }
+    &s[..0]
+}
+
+// The table of offset k of the array of `count` offsets at `at`, empty where there is none.
+pub fn child_of<'a>(s: &'a [u8], at: usize, count: usize, k: usize) -> &'a [u8]
+    requires { ⌜ (at < 65536) × (count < 4294967296) ⌝ }
+    ensures { λ r. ⌜ now r ≡ childOf (now (s .entry)) at count k ⌝ }
+{
+    if count <= k {
+        return &s[..0];
+    }
+    let here = at + 2 * k;
+    if s.len() < here + 2 {
+        return &s[..0];
+    }
+    table_at(s, read_u16(s, here) as usize)
+}

@@ -1,0 +1,63 @@
+// Short tables cut at every byte: + where the table passes, - where it doesn't.
+use libc::STDOUT_FILENO;
+use tables::anchor::Anchor;
+use tables::anchor::anchor_of;
+use tables::class_def;
+use tables::coverage;
+use tables::part::table_at;
+
+// What is cut.
+enum Kind {
+    Coverage,
+    Classes,
+    Anchor,
+}
+
+// Whether the table at byte 2 passes: a list's check, or that there is an anchor.
+fn passes(kind: Kind, s: &[u8]) -> bool {
+    match kind {
+        Kind::Coverage => coverage::good_at(s, 2),
+        Kind::Classes => class_def::good_at(s, 2),
+        Kind::Anchor => match anchor_of(table_at(s, 2)) {
+            Anchor::At(_) => true,
+            Anchor::Absent => false,
+        },
+    }
+}
+
+fn sign(passed: bool) {
+    if passed {
+        io::write_all(STDOUT_FILENO, b"+");
+    } else {
+        io::write_all(STDOUT_FILENO, b"-");
+    }
+}
+
+// The first 0, 1, 2 .. bytes, and then all.
+fn cut(label: &[u8], kind: Kind, s: &[u8]) {
+    io::write_all(STDOUT_FILENO, label);
+    let mut n = 0;
+    while n < s.len() {
+        sign(passes(kind, &s[0..n]));
+        n += 1;
+    }
+    sign(passes(kind, s));
+    io::write_all(STDOUT_FILENO, b"\n");
+}
+
+pub fn run() {
+    let s = b"..\x00\x01\x00\x02\x00\x05\x00\x09";
+    cut(b"coverage 1 cut: ", Kind::Coverage, s);
+    let s = b"..\x00\x02\x00\x01\x00\x05\x00\x09\x00\x00";
+    cut(b"coverage 2 cut: ", Kind::Coverage, s);
+    let s = b"..\x00\x01\x00\x05\x00\x01\x00\x07";
+    cut(b"class list 1 cut: ", Kind::Classes, s);
+    let s = b"..\x00\x02\x00\x01\x00\x05\x00\x09\x00\x01";
+    cut(b"class list 2 cut: ", Kind::Classes, s);
+    let s = b"..\x00\x01\x00\xBD\xFF\x99";
+    cut(b"anchor 1 cut: ", Kind::Anchor, s);
+    let s = b"..\x00\x02\x01\x42\x03\x84\x00\x0D";
+    cut(b"anchor 2 cut: ", Kind::Anchor, s);
+    let s = b"..\x00\x03\x01\x17\x05\x15\x00\x0A\x00\x14";
+    cut(b"anchor 3 cut: ", Kind::Anchor, s);
+}

@@ -1,0 +1,112 @@
+// Anchors, mark arrays, rows of anchors.
+use ints::big_endian::Signed;
+use libc::STDOUT_FILENO;
+use tables::anchor;
+use tables::anchor::Anchor;
+use tables::anchor::Point;
+use tables::anchor_rows;
+use tables::anchor_rows::Rows;
+use tables::mark_array;
+use tables::mark_array::Mark;
+
+fn signed(v: Signed) {
+    if v < 2147483648 {
+        io::print_decimal(STDOUT_FILENO, v as u64);
+    } else {
+        io::write_all(STDOUT_FILENO, b"-");
+        io::print_decimal(STDOUT_FILENO, 4294967296 - (v as u64));
+    }
+}
+
+fn point(p: Point) {
+    io::write_all(STDOUT_FILENO, b" (");
+    signed(p.x);
+    io::write_all(STDOUT_FILENO, b", ");
+    signed(p.y);
+    io::write_all(STDOUT_FILENO, b")\n");
+}
+
+fn anchor(label: &[u8], found: Anchor) {
+    io::write_all(STDOUT_FILENO, label);
+    match found {
+        Anchor::At(p) => {
+            io::write_all(STDOUT_FILENO, b":");
+            point(p);
+        }
+        Anchor::Absent => {
+            io::write_all(STDOUT_FILENO, b": none\n");
+        }
+    }
+}
+
+fn mark(label: &[u8], t: &[u8], k: usize) {
+    io::write_all(STDOUT_FILENO, label);
+    match mark_array::mark_of(t, k) {
+        Mark::Of(class, p) => {
+            io::write_all(STDOUT_FILENO, b": class ");
+            io::print_decimal(STDOUT_FILENO, class as u64);
+            point(p);
+        }
+        Mark::Absent => {
+            io::write_all(STDOUT_FILENO, b": none\n");
+        }
+    }
+}
+
+// The anchor in a row for a mark class, of two classes.
+fn row(label: &[u8], t: &[u8], row: usize, class: usize) {
+    match anchor_rows::rows_of(t, 2) {
+        Rows::Of(rows) => {
+            anchor(label, anchor_rows::anchor_in(t, rows, 2, row, class));
+        }
+        Rows::Absent => {
+            anchor(label, Anchor::Absent);
+        }
+    }
+}
+
+fn anchors() {
+    anchor(b"anchor 1", anchor::anchor_of(b"\x00\x01\x00\xBD\xFF\x99"));
+    anchor(
+        b"anchor 2",
+        anchor::anchor_of(b"\x00\x02\x01\x42\x03\x84\x00\x0D"),
+    );
+    anchor(
+        b"anchor 3",
+        anchor::anchor_of(b"\x00\x03\x80\x00\x7F\xFF\x00\x00\x00\x00"),
+    );
+    anchor(b"anchor 0", anchor::anchor_of(b"\x00\x00\x00\xBD\xFF\x99"));
+    anchor(
+        b"anchor 4",
+        anchor::anchor_of(b"\x00\x04\x00\xBD\xFF\x99\x00\x00\x00\x00\x00\x00"),
+    );
+}
+
+fn marks() {
+    let t = b"\x00\x02\x00\x03\x00\x0A\x00\x01\x00\x00\x00\x01\x00\x0A\xFF\xFF";
+    mark(b"mark 0", t, 0);
+    mark(b"mark 1, offset 0", t, 1);
+    mark(b"mark 2, past the count", t, 2);
+    mark(b"mark 0, record cut", b"\x00\x01\x00\x03\x00", 0);
+    mark(
+        b"mark 0, offset past the end",
+        b"\x00\x01\x00\x03\x00\x07",
+        0,
+    );
+}
+
+fn rows() {
+    let t = b"\x00\x02\x00\x0A\x00\x00\x00\x00\x00\x0A\x00\x01\x00\x07\x00\x08";
+    row(b"row 0, class 0", t, 0, 0);
+    row(b"row 0, class 1, offset 0", t, 0, 1);
+    row(b"row 0, class 2, past the count", t, 0, 2);
+    row(b"row 1, class 1", t, 1, 1);
+    row(b"row 2, past the count", t, 2, 0);
+    row(b"row 0, table cut", b"\x00\x01\x00\x06\x00", 0, 0);
+}
+
+pub fn run() {
+    anchors();
+    marks();
+    rows();
+}

@@ -1,0 +1,61 @@
+-- Laws of the format: set bits counted at once and one by one, and a field that is there lies in its record. Assumes nothing.
+use mathlib.Core.Path.{_≡_, refl, sym, ap, ap₂, subst, _∙_}
+use Prim.Native.Nat.{ℕ, zero, suc, _+_, _-_, _*_, _/_, _%_, _^_, _≤_, _<_}
+use native.Mathlib.Nat.{add-zero, add-suc, add-comm, one-mul, mod-lt, mod-one}
+use native.Mathlib.Numerals.{one-add}
+use native.Mathlib.Omega.{arith}
+use lib.Bits.{bitAnd, and-mask}
+use lib.Count.{ones, onesIn, ones-cat, ones-le}
+use lib.Dec.{lit<}
+use lib.Pow.{pow-pos, mod-pow-add, shl-exact}
+use Rattle.values.specs.Format.{bitOf, fieldPlace, recordLength, setBelow}
+
+-- ---- counting
+-- a bit counts itself
+ones-bit : (x : ℕ) → x < 2 → ones x ≡ x
+unfolding ones onesIn
+ones-bit zero h = refl
+ones-bit (suc zero) h = refl
+ones-bit (suc (suc x)) h = absurd (omega arith)
+
+-- the set bits below b, counted at once and one by one
+pub ones-below : (b f : ℕ) → ones (f % 2 ^ b) ≡ setBelow f b
+unfolding setBelow ones onesIn
+ones-below zero f = ap ones (mod-one f)
+ones-below (suc b) f =
+    ap (λ (k : ℕ). ones (f % 2 ^ k)) (sym (one-add b)) ∙ ap ones (mod-pow-add f 1 b)
+    ∙ ones-cat b (f / 2 ^ b % 2 ^ 1) (f % 2 ^ b) (mod-lt f (pow-pos b))
+    ∙ ap₂ (λ (x y : ℕ). x + y) (ones-bit (f / 2 ^ b % 2) (mod-lt (f / 2 ^ b) (lit< tt))) (ones-below b f)
+    ∙ add-comm (bitOf f b) (setBelow f b)
+
+-- the bits that the code's mask leaves are those below b, and no more than b of them are set
+pub mask : (f b : ℕ) → b < 8 → bitAnd f ((1 * 2 ^ b) % 4294967296 - 1) ≡ f % 2 ^ b
+mask f b h =
+    ap (λ (m : ℕ). bitAnd f (m - 1)) (shl-exact {a = 1} 1 b 32 (lit< tt) (omega arith) ∙ one-mul (2 ^ b)) ∙ and-mask f b
+
+pub mask-le : (f b : ℕ) → b < 8 → ones (bitAnd f ((1 * 2 ^ b) % 4294967296 - 1)) ≤ b
+mask-le f b h = subst (λ (m : ℕ). ones m ≤ b) (sym (mask f b h)) (ones-le b (f % 2 ^ b) (mod-lt f (pow-pos b)))
+
+-- ---- places
+-- more bits, more are set
+set-mono : (f b n : ℕ) → setBelow f b ≤ setBelow f (b + n)
+unfolding setBelow
+set-mono f b zero = omega (arith, ap (setBelow f) (add-zero b))
+set-mono f b (suc n) = omega (arith, set-mono f b n, ap (setBelow f) (add-suc b n))
+
+-- a field that is there lies in its record
+pub field-in : (f b : ℕ) → b < 8 → bitOf f b ≡ 1 → fieldPlace f b + 2 ≤ recordLength f
+unfolding setBelow
+field-in f b h e =
+    let q : suc b + (8 - suc b) ≡ 8 = omega arith in
+    let w : setBelow f b + bitOf f b ≤ setBelow f 8 = rw q at (set-mono f (suc b) (8 - suc b)) in
+    omega arith
+
+-- no more bits are set than there are, so a record has 16 bytes at most
+set-le : (f b : ℕ) → setBelow f b ≤ b
+unfolding setBelow
+set-le f zero = omega arith
+set-le f (suc b) = omega (arith, set-le f b, mod-lt (f / 2 ^ b) (lit< {m = 0} {n = 2} tt))
+
+pub length-small : (f : ℕ) → recordLength f ≤ 16
+length-small f = omega (arith, set-le f 8)

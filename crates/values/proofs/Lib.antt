@@ -1,0 +1,4 @@
+pub mod FormatLaws
+pub mod TouchLaws
+pub mod ValueLaws
+pub mod Examples

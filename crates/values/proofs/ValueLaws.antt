@@ -1,0 +1,144 @@
+-- Laws of applying a record: a field that is absent, skipped or applied, one field more, and a record cut or whole. Assumes nothing.
+use mathlib.Core.Path.{_≡_, refl, sym, ap, _∙_}
+use mathlib.Core.Bool.{Bool, true, false, not, _||_}
+use mathlib.Core.List.{List}
+use Prim.Native.Nat.{ℕ, zero, suc, _+_, _≤_, _<_}
+use native.Mathlib.Decide.{decLt}
+use native.Mathlib.Numerals.{add-one}
+use native.Mathlib.Omega.{arith}
+use borrow.Author.Tests.{eq-eqb, ne-eqb, lt-ltb, le-ltb}
+use lib.Dec.{eqb}
+use lib.IntN.{ℤ, pos, negsuc, natAbs}
+use lib.ListN.{length, set}
+use lib.Seq.{set-getD}
+use Rattle.ints.specs.Scale.{scaled}
+use Rattle.ints.specs.Signed.{pattern, signed, val}
+use Rattle.ints.proofs.SignedLaws.{pattern-signed}
+use Rattle.slots.specs.Slot.{Slot, noSlot}
+use Rattle.slots.specs.Line.{slot, update}
+use Rattle.slots.specs.Fields.{measure, withMeasure}
+use Rattle.slots.specs.declared.axis.Axis.{Axis}
+use Rattle.slots.specs.declared.axis.Direction.{Direction}
+use Rattle.slots.specs.declared.fields.Measure.{Measure}
+use Rattle.slots.proofs.LineLaws.{update-twice}
+use Rattle.values.specs.Codes.{touchBy}
+use Rattle.values.specs.Format.{bitOf, fieldValue, recordLength}
+use Rattle.values.specs.Touch.{applies, skipped, touched, touches}
+use Rattle.values.specs.Value.{fieldWorks, fieldsWork, valued, withField, withFields, worked}
+
+-- ---- one slot of a line
+-- a change that leaves the slot leaves the line
+pub update-none : (i : ℕ) (ss : List Slot) → update i (λ s. s) ss ≡ ss
+unfolding update
+update-none i ss = set-getD ss i noSlot
+
+-- a measure set to op of what it was and z: old and new are the measure before and after
+pub put-measure : (op : ℤ → ℤ → ℤ) (m : Measure) (a : Axis) (i : ℕ) (z old new : ℤ) (ss next : List Slot) → old ≡ measure m a (slot ss i) → new ≡ op old z →
+    next ≡ update i (withMeasure m a new) ss → next ≡ update i (λ s. withMeasure m a (op (measure m a s) z) s) ss
+unfolding update
+put-measure op m a i z old new ss next e g h = h ∙ ap (λ (x : ℤ). set ss i (withMeasure m a x (slot ss i))) (g ∙ ap (λ (x : ℤ). op x z) e)
+
+-- what the code k touches, where the entry t is k
+pub by-code : (k t i : ℕ) (z : ℤ) (ss next : List Slot) → t ≡ k → next ≡ update i (touched (touchBy k) z) ss → next ≡ update i (touched (touchBy t) z) ss
+by-code k t i z ss next e h = rw e h
+
+-- ---- one field
+-- 0 alone is of size 0
+abs-zero : (z : ℤ) → natAbs z ≡ 0 → z ≡ pos 0
+abs-zero (pos n) e = ap pos e
+abs-zero (negsuc n) e = absurd (omega arith)
+
+-- the bits are 0 where the integer is
+zero-bits : (v : ℕ) → v < 4294967296 → eqb v 0 ≡ eqb (natAbs (val v)) 0
+unfolding pattern signed
+zero-bits v h = go (decLt 0 v)
+  where
+    nonzero : 0 < v → natAbs (val v) ≡ 0 → ⊥
+    nonzero l e = let z : v ≡ 0 = sym (pattern-signed 4 v h) ∙ ap (pattern 4) (abs-zero (val v) e) in omega arith
+
+    go : Dec (0 < v) → eqb v 0 ≡ eqb (natAbs (val v)) 0
+    go (yes l) = ne-eqb v 0 (λ e. omega arith) ∙ sym (ne-eqb (natAbs (val v)) 0 (nonzero l))
+    go (no n) = let e : v ≡ 0 = omega arith in rw e
+
+-- a code from 1 to 4 is no skipping
+applies-by : (t : ℕ) → (t ≡ 0 → ⊥) → t < 5 → applies (touchBy t) ≡ true
+applies-by zero ne h = absurd (ne refl)
+applies-by (suc zero) ne h = refl
+applies-by (suc (suc zero)) ne h = refl
+applies-by (suc (suc (suc zero))) ne h = refl
+applies-by (suc (suc (suc (suc zero)))) ne h = refl
+applies-by (suc (suc (suc (suc (suc t))))) ne h = absurd (omega arith)
+
+module _ (s u : ℕ) (d : Direction) (r : List ℕ) (f b i : ℕ) (ss : List Slot) where
+  -- the line next is ss with field b applied to slot i, and w says whether it worked
+  abbrev pub OneField : List Slot → Bool → Type 0
+  OneField next w = (next ≡ update i (withField s u d r f b) ss) × (w ≡ fieldWorks d r f b)
+
+  -- a field that the record lacks changes nothing and has not worked, nor does one that is skipped
+  pub field-absent : (bitOf f b ≡ 1 → ⊥) → OneField ss false
+  unfolding update
+  field-absent ne =
+      let e = ne-eqb (bitOf f b) 1 ne in
+      (simp e (sym (update-none i ss)), simp e)
+
+  pub field-skipped : bitOf f b ≡ 1 → skipped ≡ touches d b → OneField ss false
+  unfolding update
+  field-skipped h t =
+      let e = eq-eqb (bitOf f b) 1 h in
+      (simp (e, ← t) (sym (update-none i ss)), simp (e, ← t))
+
+  -- a field that applies: t is the table's code, v the value's bits, and z those of the scaled value
+  pub field-applied : (t v z : ℕ) (next : List Slot) → bitOf f b ≡ 1 → touchBy t ≡ touches d b → (t ≡ 0 → ⊥) → t < 5 → v < 4294967296 →
+      val v ≡ fieldValue r f b → val z ≡ scaled (val v) s u → next ≡ update i (touched (touchBy t) (val z)) ss → OneField next (not (eqb v 0))
+  unfolding update
+  field-applied t v z next h e ne l k p q g =
+      let o = eq-eqb (bitOf f b) 1 h in
+      let y : applies (touches d b) ≡ true = ap applies (sym e) ∙ applies-by t ne l in (
+        simp (o, ← e, ← p, ← q) g,
+        simp (o, y) (ap not (zero-bits v k ∙ ap (λ (x : ℤ). eqb (natAbs x) 0) p)),
+      )
+
+-- ---- the fields of a record
+-- y is set where x holds, and else stays w
+pub or-set : (w x y : Bool) → x ≡ true → y ≡ true → y ≡ w || x
+or-set true x y e q = q
+or-set false x y e q = q ∙ sym e
+
+pub or-kept : (w x y : Bool) → x ≡ false → y ≡ w → y ≡ w || x
+or-kept true x y e q = q
+or-kept false x y e q = q ∙ sym e
+
+module _ (s u : ℕ) (d : Direction) (r : List ℕ) (f i : ℕ) (ss : List Slot) where
+  -- the line next is ss with the first n fields applied to slot i, and w says whether one of them worked
+  abbrev pub Fields : ℕ → List Slot → Bool → Type 0
+  Fields n next w = (next ≡ update i (withFields s u d r f n) ss) × (w ≡ fieldsWork d r f n)
+
+  -- before the first field
+  pub no-fields : Fields 0 ss false
+  unfolding withFields fieldsWork
+  no-fields = (sym (update-none i ss), refl)
+
+  -- one field more
+  pub more-fields : (n : ℕ) (now next : List Slot) (w x y : Bool) → i < length ss → Fields n now w → OneField s u d r f n i now next x → y ≡ w || x → Fields (n + 1) next y
+  unfolding withFields fieldsWork
+  more-fields n now next w x y h e g o = rw add-one (
+    g .0 ∙ ap (update i (withField s u d r f n)) (e .0) ∙ update-twice i (withFields s u d r f n) ss (withField s u d r f n) h,
+    o ∙ rw (e .1, g .1),
+  )
+
+  -- the line next is ss with the record applied to slot i, and w says whether it worked
+  abbrev pub Whole : List Slot → Bool → Type 0
+  Whole next w = (next ≡ update i (valued s u d r f) ss) × (w ≡ worked d r f)
+
+  -- a cut record does nothing and has not worked; another is its eight fields
+  pub record-cut : length r < recordLength f → Whole ss false
+  unfolding valued worked update
+  record-cut h =
+      let e = lt-ltb (length r) (recordLength f) h in
+      (simp e (sym (update-none i ss)), simp e)
+
+  pub record-whole : (next : List Slot) (w : Bool) → recordLength f ≤ length r → Fields 8 next w → Whole next w
+  unfolding valued worked update
+  record-whole next w h e =
+      let q = le-ltb (length r) (recordLength f) h in
+      (simp q (e .0), simp q (e .1))

@@ -1,0 +1,80 @@
+-- After each turn of the loop one field more is applied. Assumes nothing.
+use mathlib.Core.Logic.{⊎-elim}
+use mathlib.Core.Path.{_≡_, refl, _∙_}
+use Prim.Native.Nat.{_-_, _≤_}
+use native.Mathlib.Omega.{arith}
+use lib.ListN.{length}
+use Rattle.slots.specs.Line.{slots}
+use Rattle.slots.proofs.LineLaws.{length-slots}
+use Rattle.values.proofs.ValueLaws.{Fields, more-fields, no-fields, or-kept, or-set, record-cut, record-whole}
+use Rattle.values.proofs.value.apply_value.Statement.{statement}
+use Rattle.values.proofs.value.apply_value.Tie as tie
+
+abbrev Inv-loop : tie.InvT-loop
+Inv-loop line₀ i r format d s u works₀ field₀ line works field = (field ≤ 8) × (length line ≡ length line₀) × Fields s u d r format i (slots line₀) field (slots line) works
+
+abbrev μ-loop : tie.MeasureT-loop
+μ-loop line₀ i r format d s u works₀ field₀ line works field = 8 - field
+
+record-len-requires : tie.Need-record-len-requires Inv-loop μ-loop
+record-len-requires c κs = omega arith
+
+returns : tie.Need-returns Inv-loop μ-loop
+returns c =
+    let a = c .before .before .before .before .args in
+    record-cut (a .s) (a .u) (a .d) (a .r .now) (a .format) (a .i) (slots (a .line .now)) (omega arith)
+
+loop-holds : tie.Need-loop-holds Inv-loop μ-loop
+loop-holds c =
+    let a = c .before .before .before .before .args in
+    (omega arith, refl, no-fields (a .s) (a .u) (a .d) (a .r .now) (a .format) (a .i) (slots (a .line .now)))
+
+apply-field-requires : tie.Need-apply-field-requires Inv-loop μ-loop
+apply-field-requires c κs = omega arith
+
+add-field : tie.Need-add-field Inv-loop μ-loop
+add-field c = omega arith
+
+loop-less : tie.Need-loop-less Inv-loop μ-loop
+loop-less c = omega arith
+
+loop-again : tie.Need-loop-again Inv-loop μ-loop
+loop-again c =
+    let call = c .before .before .before .apply-field in
+    let l = c .before .before .before .before .before .before in
+    let a = l .before .before .before .before .before .args in
+    let w = l .loop .works in
+    let x = call .result in
+    let y = c .if2 .works in (
+      omega arith,
+      call .kept .0 ∙ l .loop .inv .1,
+      more-fields (a .s) (a .u) (a .d) (a .r .now) (a .format) (a .i) (slots (a .line .now)) (l .loop .field) (slots (l .loop .line)) (slots (call .last .0)) w x y
+          (omega (arith, length-slots (a .line .now))) (l .loop .inv .2) (call .ensures)
+          (⊎-elim (λ h. or-set w x y (h .0 .taken) (h .1)) (λ h. or-kept w x y (h .0 .left) (h .1)) (c .if2 .came)),
+    )
+
+same-length : tie.Need-same-length Inv-loop μ-loop
+same-length c = c .before .loop .inv .1
+
+returns-2 : tie.Need-returns-2 Inv-loop μ-loop
+returns-2 c =
+    let a = c .before .before .before .before .before .before .args in
+    let l = c .before .loop in
+    let e : l .field ≡ 8 = omega arith in
+    record-whole (a .s) (a .u) (a .d) (a .r .now) (a .format) (a .i) (slots (a .line .now)) (slots (l .line)) (l .works) (omega arith) (rw e at (l .inv .2))
+
+pub apply-value-spec : {M : Type 1} → statement M
+apply-value-spec =
+    tie.close
+    (tie.spec
+    Inv-loop
+    μ-loop
+    record-len-requires
+    returns
+    loop-holds
+    apply-field-requires
+    add-field
+    loop-less
+    loop-again
+    same-length
+    returns-2)

@@ -1,0 +1,92 @@
+-- Each code has its measure; another code touches nothing. Assumes nothing.
+use mathlib.Core.Path.{sym}
+use borrow.Author.Tests.{ne-eqb}
+use Rattle.ints.specs.Saturating.{less}
+use Rattle.ints.specs.Signed.{val}
+use Rattle.slots.specs.Line.{slots}
+use Rattle.slots.specs.declared.axis.Axis.the-variants.{Y}
+use Rattle.slots.specs.declared.fields.Measure.the-variants.{Advance}
+use Rattle.values.proofs.ValueLaws.{by-code, put-measure, update-none}
+use borrow.Author.Needs.{needs}
+use Rattle.values.proofs.value.touch.Statement.{statement}
+use Rattle.values.proofs.value.touch.Tie as tie
+
+add-to-requires : tie.Need-add-to-requires
+add-to-requires c κs = search needs
+
+same-length : tie.Need-same-length
+same-length c = search needs
+
+returns : tie.Need-returns
+returns c =
+    let a = c .before .before .before .before .before .before .args in
+    by-code 1 (a .t) (a .i) (val (a .v)) (slots (a .line .now)) _ (c .before .before .before .before .if1 .taken) (c .before .before .add-to .ensures)
+
+add-to-requires-2 : tie.Need-add-to-requires-2
+add-to-requires-2 c κs = search needs
+
+same-length-2 : tie.Need-same-length-2
+same-length-2 c = search needs
+
+returns-2 : tie.Need-returns-2
+returns-2 c =
+    let a = c .before .before .before .before .before .before .before .args in
+    by-code 2 (a .t) (a .i) (val (a .v)) (slots (a .line .now)) _ (c .before .before .before .before .if2 .taken) (c .before .before .add-to2 .ensures)
+
+add-to-requires-3 : tie.Need-add-to-requires-3
+add-to-requires-3 c κs = search needs
+
+same-length-3 : tie.Need-same-length-3
+same-length-3 c = search needs
+
+returns-3 : tie.Need-returns-3
+returns-3 c =
+    let a = c .before .before .before .before .before .before .before .before .args in
+    by-code 3 (a .t) (a .i) (val (a .v)) (slots (a .line .now)) _ (c .before .before .before .before .if3 .taken) (c .before .before .add-to3 .ensures)
+
+get-requires : tie.Need-get-requires
+get-requires c κs = search needs
+
+sat-sub-requires : tie.Need-sat-sub-requires
+sat-sub-requires c κs = search needs
+
+set-requires : tie.Need-set-requires
+set-requires c κs = search needs
+
+same-length-4 : tie.Need-same-length-4
+same-length-4 c = search needs
+
+returns-4 : tie.Need-returns-4
+returns-4 c =
+    let a = c .before .before .before .before .before .before .before .before .before .before .before .before .args in
+    let ss = slots (a .line .now) in
+    let call = c .before .before in
+    by-code 4 (a .t) (a .i) (val (a .v)) ss _ (call .before .before .before .before .before .if4 .taken)
+    (put-measure less Advance Y (a .i) (val (a .v)) _ _ ss _ (call .before .before .before .get .ensures) (call .before .sat-sub .ensures) (call .set .ensures))
+
+returns-5 : tie.Need-returns-5
+returns-5 c =
+    let a = c .before .before .before .before .before .args in
+    let other = c .before in
+    simp (ne-eqb (a .t) 1 (other .before .before .if1 .left), ne-eqb (a .t) 2 (other .before .if2 .left), ne-eqb (a .t) 3 (other .if3 .left), ne-eqb (a .t) 4 (c .if4 .left))
+    (sym (update-none (a .i) (slots (a .line .now))))
+
+pub touch-spec : {M : Type 1} → statement M
+touch-spec =
+    tie.close
+    (tie.spec
+    add-to-requires
+    same-length
+    returns
+    add-to-requires-2
+    same-length-2
+    returns-2
+    add-to-requires-3
+    same-length-3
+    returns-3
+    get-requires
+    sat-sub-requires
+    set-requires
+    same-length-4
+    returns-4
+    returns-5)

@@ -1,0 +1,4 @@
+pub mod Format
+pub mod Touch
+pub mod Codes
+pub mod Value

@@ -1,0 +1,32 @@
+// The ValueFormat, and a record's bytes.
+ghost use mathlib.Core.Path.{_≡_};
+ghost use Prim.Native.Nat.{_+_, _*_, _≤_, _<_};
+ghost use Rattle.values.specs.Format.{fieldPlace, recordAt, recordLength};
+
+// Two bytes for each set bit of the format.
+pub fn record_len(format: u32) -> usize
+    requires { ⌜ format < 256 ⌝ }
+    ensures { λ r. ⌜ (r ≡ recordLength format) × (r ≤ 16) ⌝ }
+{
+    2 * (u32::count_ones(format) as usize)
+}
+
+// The place of a field in a record: two bytes for each set bit below its own.
+pub fn field_place(format: u32, field: u32) -> usize
+    requires { ⌜ field < 8 ⌝ }
+    ensures { λ r. ⌜ r ≡ fieldPlace format field ⌝ }
+{
+    2 * (u32::count_ones(format & ((1 << field) - 1)) as usize)
+}
+
+// The bytes of the record of a format at a place of a table, as a part of it: empty where it is not wholly inside.
+pub fn record_at<'a>(t: &'a [u8], at: usize, format: u32) -> &'a [u8]
+    requires { ⌜ (format < 256) × (at < 4294967296) ⌝ }
+    ensures { λ r. ⌜ now r ≡ recordAt (now (t .entry)) at format ⌝ }
+{
+    let end = at + record_len(format);
+    if end <= t.len() {
+        return &t[at..end];
+    }
+    &t[..0]
+}

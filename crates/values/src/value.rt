@@ -1,0 +1,110 @@
+// Applying a value record to a slot (`apply_value`, `apply_value_fields`).
+use crate::format::field_place;
+use crate::format::record_len;
+use crate::touch::touch_of;
+use ints::big_endian::Signed;
+use ints::big_endian::read_i16;
+use ints::saturating::sat_add;
+use ints::saturating::sat_sub;
+use slots::axis::Axis;
+use slots::axis::Direction;
+use slots::fields::Measure;
+ghost use mathlib.Core.Path.{_≡_};
+ghost use Prim.Native.Nat.{_≤_, _<_};
+ghost use lib.ListN.{length};
+ghost use Rattle.ints.specs.Saturating.{plus};
+ghost use Rattle.ints.specs.Scale.{InScale};
+ghost use Rattle.ints.specs.Signed.{val};
+ghost use Rattle.slots.specs.Fields.{measure, withMeasure};
+ghost use Rattle.slots.specs.Line.{count, slots, update};
+ghost use Rattle.values.specs.Codes.{touchBy};
+ghost use Rattle.values.specs.Format.{recordLength};
+ghost use Rattle.values.specs.Touch.{touched};
+ghost use Rattle.values.specs.Value.{fieldWorks, valued, withField, worked};
+
+// A value added to one of slot i's measures.
+fn add_to(line: &mut [u8], i: usize, m: Measure, a: Axis, v: Signed)
+    requires { ⌜ i < count (now line) ⌝ }
+    ensures { λ _. ⌜ slots (now (line .exit)) ≡ update i (λ s. withMeasure m a (plus (measure m a s) (val v)) s) (slots (now (line .entry))) ⌝ }
+{
+    let old = slots::fields::get(line, i, m, a);
+    slots::fields::set(line, i, m, a, sat_add(old, v));
+}
+
+// A scaled value put to what an entry of the table names.
+fn touch(line: &mut [u8], i: usize, t: u8, v: Signed)
+    requires { ⌜ i < count (now line) ⌝ }
+    ensures { λ _. ⌜ slots (now (line .exit)) ≡ update i (touched (touchBy t) (val v)) (slots (now (line .entry))) ⌝ }
+{
+    if t == 1 {
+        add_to(line, i, Measure::Offset, Axis::X, v);
+        return;
+    }
+    if t == 2 {
+        add_to(line, i, Measure::Offset, Axis::Y, v);
+        return;
+    }
+    if t == 3 {
+        add_to(line, i, Measure::Advance, Axis::X, v);
+        return;
+    }
+    if t == 4 {
+        let old = slots::fields::get(line, i, Measure::Advance, Axis::Y);
+        slots::fields::set(line, i, Measure::Advance, Axis::Y, sat_sub(old, v));
+        return;
+    }
+}
+
+// One field of a whole record applied to slot i: whether it worked, which looks at the value before scaling.
+fn apply_field(
+    line: &mut [u8],
+    i: usize,
+    r: &[u8],
+    format: u32,
+    field: u32,
+    d: Direction,
+    s: u32,
+    u: u32,
+) -> bool
+    requires { ⌜ (i < count (now line)) × (format < 256) × (field < 8) × (recordLength format ≤ length (now r)) × InScale s u ⌝ }
+    ensures { λ w. ⌜ (slots (now (line .exit)) ≡ update i (withField s u d (now (r .entry)) format field) (slots (now (line .entry)))) × (w ≡ fieldWorks d (now (r .entry)) format field) ⌝ }
+{
+    if (format >> field) % 2 != 1 {
+        return false;
+    }
+    let t = touch_of(d, field as usize);
+    if t == 0 {
+        return false;
+    }
+    let v = read_i16(r, field_place(format, field));
+    let z = ints::scale::scale(v, s, u);
+    touch(line, i, t, z);
+    v != 0
+}
+
+// The record r applied to slot i, field by field in bit order: whether it worked. A cut record does nothing and has not worked.
+pub fn apply_value(
+    line: &mut [u8],
+    i: usize,
+    r: &[u8],
+    format: u32,
+    d: Direction,
+    s: u32,
+    u: u32,
+) -> bool
+    requires { ⌜ (i < count (now line)) × (format < 256) × InScale s u ⌝ }
+    ensures { λ w. ⌜ (slots (now (line .exit)) ≡ update i (valued s u d (now (r .entry)) format) (slots (now (line .entry)))) × (w ≡ worked d (now (r .entry)) format) ⌝ }
+{
+    if r.len() < record_len(format) {
+        return false;
+    }
+    let mut works = false;
+    let mut field: u32 = 0;
+    while field < 8 {
+        if apply_field(line, i, r, format, field, d, s, u) {
+            works = true;
+        }
+        field += 1;
+    }
+    works
+}
