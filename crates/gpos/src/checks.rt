@@ -21,9 +21,9 @@ pub fn is_off_scale(s: u32, u: u32) -> bool
     16384 < u
 }
 
-// Refusals 1 to 4 of a line, a direction and a number out of range.
-pub fn check_line(line: &[u8], direction: u32, bad_number: bool) -> Done
-    ensures { λ r. ⌜ saidDone r ≡ unless (lineTests (now (line .entry)) direction bad_number) done ⌝ }
+// Refusals 1 to 4: `unfit` says that another number is out of its range.
+pub fn check_line(line: &[u8], direction: u32, unfit: bool) -> Done
+    ensures { λ r. ⌜ saidDone r ≡ unless (lineTests (now (line .entry)) direction unfit) done ⌝ }
 {
     if slots::checks::is_misshapen(line) {
         return Done::Refused(Refusal::Line);
@@ -31,7 +31,7 @@ pub fn check_line(line: &[u8], direction: u32, bad_number: bool) -> Done
     if 3 < direction {
         return Done::Refused(Refusal::Direction);
     }
-    if bad_number {
+    if unfit {
         return Done::Refused(Refusal::Number);
     }
     if slots::checks::is_unranged(line) {
