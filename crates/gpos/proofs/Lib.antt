@@ -1,2 +1,3 @@
 pub mod TestLaws
+pub mod Demand3
 pub mod Unique

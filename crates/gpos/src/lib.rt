@@ -1,6 +1,8 @@
 // Glyph positioning on lines of slots: the public calls. Each takes any bytes and any numbers, checks each argument once, and answers as document 01
 // says; the work is done by the cores below. A refusal or a decline leaves the line as it was.
 mod checks;
+mod finishing;
 mod starting;
 
+pub use finishing::finish;
 pub use starting::start;

@@ -1,0 +1,81 @@
+-- The ways through `settle`: p is what code found to be slot i's parent, l₁ the line with its chain cleared. Assumes nothing.
+use mathlib.Core.Bool.{true, false}
+use mathlib.Core.List.{List}
+use mathlib.Core.Path.{_≡_, sym, ap, _∙_}
+use Prim.Native.Nat.{ℕ, suc, _+_, _-_, _<_}
+use native.Mathlib.Nat.{pos-of-ne-zero}
+use native.Mathlib.Numerals.{add-one}
+use native.Mathlib.Omega.{arith}
+use Rattle.ints.specs.Signed.{signed, val}
+use Rattle.slots.specs.Axis.{forward}
+use Rattle.slots.specs.Slot.{Slot}
+use Rattle.slots.specs.Line.{count, slot, slots, update}
+use Rattle.slots.specs.Fields.{withChain}
+use Rattle.slots.specs.Parent.{parent}
+use Rattle.slots.specs.declared.axis.Direction.{Direction}
+use Rattle.slots.specs.declared.parent.Parent.{Parent}
+use Rattle.slots.specs.declared.parent.Parent.the-variants.{None, Outside, At}
+use Rattle.slots.proofs.LineLaws.{length-slots}
+use Rattle.finish.specs.Finish.{cleared, finished, joined, settled, settledDown, settledUp}
+use Rattle.finish.proofs.Parents.{parent-in, parent-none}
+use Rattle.finish.proofs.SettledLaws.{settled-at, settled-none, settled-outside, settled-stop}
+
+-- a parent in the line is a slot of its bytes
+pub parent-counted : (l : List ℕ) (i j : ℕ) {p : Parent} → p ≡ parent (slots l) i → p ≡ At j → j < count l
+parent-counted l i j is e = omega (arith, parent-in (slots l) i j (sym is ∙ e), length-slots l)
+
+module _ (d : Direction) (n : ℕ) (l : List Slot) (i : ℕ) {p : Parent} (is : p ≡ parent l i) where
+  pub settles-none : p ≡ None → l ≡ settled d n l i
+  settles-none e = sym (settled-none d l i n (sym is ∙ e))
+
+  module _ {l₁ : List Slot} (clears : l₁ ≡ update i (withChain (val 0)) l) where
+    cleared-is : l₁ ≡ cleared l i
+    unfolding cleared signed
+    cleared-is = clears
+
+    pub settles-outside : p ≡ Outside → l₁ ≡ settled d n l i
+    settles-outside e = cleared-is ∙ sym (settled-outside d l i n (sym is ∙ e))
+
+    pub settles-stop : {j : ℕ} → p ≡ At j → n ≡ 0 → l₁ ≡ settled d n l i
+    settles-stop {j} e out = cleared-is ∙ sym (settled-stop d l i j (sym is ∙ e)) ∙ ap (λ (m : ℕ). settled d m l i) (sym out)
+
+    pub settles-at : {j : ℕ} {l₂ l₃ : List Slot} → p ≡ At j → (n ≡ 0 → ⊥) → l₂ ≡ settled d (n - 1) l₁ j → l₃ ≡ joined d l₂ i j → l₃ ≡ settled d n l i
+    settles-at {j} e left up joins =
+        let more : 0 < n = pos-of-ne-zero left in
+        let one : n ≡ suc (n - 1) = omega arith in
+        joins ∙ ap (λ m. joined d m i j) (up ∙ ap (λ m. settled d (n - 1) m j) cleared-is)
+        ∙ sym (settled-at d l i (n - 1) j (sym is ∙ e)) ∙ ap (λ (m : ℕ). settled d m l i) (sym one)
+
+-- a chain that is 0, as code reads it: v
+pub settles-unattached : (d : Direction) (n : ℕ) (l : List Slot) (i : ℕ) {v : ℕ} → val v ≡ slot l i .chain → v ≡ 0 → l ≡ settled d n l i
+unfolding signed
+settles-unattached d n l i is zero-is = sym (settled-none d l i n (parent-none l i (sym is ∙ ap val zero-is)))
+
+-- ---- the loops
+module _ (d : Direction) (limit : ℕ) where
+  -- one turn: m is the line before it, m′ after it
+  pub up-more : (l : List Slot) (i : ℕ) {m m′ : List Slot} → m ≡ settledUp d limit l i → m′ ≡ settled d limit m i → m′ ≡ settledUp d limit l (i + 1)
+  unfolding settledUp
+  up-more l i done turn = rw add-one (turn ∙ ap (λ k. settled d limit k i) done)
+
+  pub down-more : (m : List Slot) (i : ℕ) {m′ whole : List Slot} → 0 < i → settledDown d limit m i ≡ whole → m′ ≡ settled d limit m (i - 1)
+      → settledDown d limit m′ (i - 1) ≡ whole
+  unfolding settledDown
+  down-more m i more left turn =
+      let one : i ≡ suc (i - 1) = omega arith in
+      ap (λ k. settledDown d limit k (i - 1)) turn ∙ ap (settledDown d limit m) (sym one) ∙ left
+
+  -- nothing is left to do
+  pub down-done : (m : List Slot) (i : ℕ) {whole : List Slot} → i ≡ 0 → settledDown d limit m i ≡ whole → m ≡ whole
+  unfolding settledDown
+  down-done m i out left = ap (settledDown d limit m) (sym out) ∙ left
+
+  -- all slots settled, upward or downward by the direction, is the line finished
+  module _ (l : List ℕ) {m : List Slot} where
+    pub finished-up : forward d ≡ true → m ≡ settledUp d limit (slots l) (count l) → m ≡ finished d limit true (slots l)
+    unfolding finished
+    finished-up f all = rw (f, length-slots l) all
+
+    pub finished-down : forward d ≡ false → m ≡ settledDown d limit (slots l) (count l) → m ≡ finished d limit true (slots l)
+    unfolding finished
+    finished-down f all = rw (f, length-slots l) all

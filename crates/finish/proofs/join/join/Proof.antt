@@ -1,0 +1,51 @@
+-- Each type has its own return; any but 1 and 2 leaves the line as it was. Assumes nothing.
+use mathlib.Core.Path.{_∙_}
+use Rattle.slots.specs.Line.{slots}
+use Rattle.finish.proofs.JoinLaws.{joined-other-type}
+use borrow.Author.Needs.{needs}
+use Rattle.finish.proofs.join.join.Statement.{statement}
+use Rattle.finish.proofs.join.join.Tie as tie
+
+get-byte-requires : tie.Need-get-byte-requires
+get-byte-requires c κs = search needs
+
+join-mark-requires : tie.Need-join-mark-requires
+join-mark-requires c κs = search needs
+
+same-length : tie.Need-same-length
+same-length c = search needs
+
+returns : tie.Need-returns
+returns c = search needs
+
+join-cursive-requires : tie.Need-join-cursive-requires
+join-cursive-requires c κs = search needs
+
+same-length-2 : tie.Need-same-length-2
+same-length-2 c = search needs
+
+returns-2 : tie.Need-returns-2
+returns-2 c = search needs
+
+same-length-3 : tie.Need-same-length-3
+same-length-3 c = search needs
+
+returns-3 : tie.Need-returns-3
+returns-3 c =
+    let a = c .before .before .before .before .before .args in
+    let type-is = c .before .before .get-byte .ensures in
+    joined-other-type (a .d) (slots (a .line .now)) (a .i) (a .j) (λ e. c .before .if1 .left (type-is ∙ e)) (λ e. c .if2 .left (type-is ∙ e))
+
+pub join-spec : {M : Type 1} → statement M
+join-spec =
+    tie.close
+    (tie.spec
+    get-byte-requires
+    join-mark-requires
+    same-length
+    returns
+    join-cursive-requires
+    same-length-2
+    returns-2
+    same-length-3
+    returns-3)

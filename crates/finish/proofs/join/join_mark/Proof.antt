@@ -1,0 +1,49 @@
+-- Both offsets are those of the definition, written one after the other. Assumes nothing.
+use native.Mathlib.Omega.{arith}
+use Rattle.slots.specs.Line.{slots}
+use Rattle.slots.proofs.LineLaws.{length-slots}
+use Rattle.finish.proofs.JoinLaws.{joined-mark}
+use borrow.Author.Needs.{needs}
+use Rattle.finish.proofs.join.join_mark.Statement.{statement}
+use Rattle.finish.proofs.join.join_mark.Tie as tie
+
+mark-from-requires : tie.Need-mark-from-requires
+mark-from-requires c κs = search needs
+
+mark-from-requires-2 : tie.Need-mark-from-requires-2
+mark-from-requires-2 c κs = search needs
+
+walk-requires : tie.Need-walk-requires
+walk-requires c κs = search needs
+
+set-requires : tie.Need-set-requires
+set-requires c κs = search needs
+
+set-requires-2 : tie.Need-set-requires-2
+set-requires-2 c κs = search needs
+
+same-length : tie.Need-same-length
+same-length c = search needs
+
+returns : tie.Need-returns
+returns c =
+    let set-x = c .before .before .before .before .before .before in
+    let at-walk = set-x .before .before in
+    let from-y = at-walk .before .before in
+    let from-x = from-y .before .before in
+    let entry = from-x .before .before .before in
+    let a = entry .args in
+    joined-mark (a .d) (slots (a .line .now)) (a .i) (a .j) (omega (arith, entry .pre .0, length-slots (a .line .now))) (entry .pre .2) (from-x .mark-from .ensures) (from-y .mark-from2 .ensures) (at-walk .walk .ensures)
+    (set-x .set .ensures) (c .before .before .set2 .ensures)
+
+pub join-mark-spec : {M : Type 1} → statement M
+join-mark-spec =
+    tie.close
+    (tie.spec
+    mark-from-requires
+    mark-from-requires-2
+    walk-requires
+    set-requires
+    set-requires-2
+    same-length
+    returns)

@@ -1,0 +1,108 @@
+-- By which of the two slots is before the other and by the direction, the part between and the flag are those of the definition. Assumes nothing.
+use mathlib.Core.Bool.{true, false}
+use mathlib.Core.Path.{sym, _∙_}
+use native.Mathlib.Omega.{arith}
+use borrow.Author.Tests.{le-ltb, lt-ltb}
+use Rattle.ints.specs.Signed.{val}
+use Rattle.slots.specs.Line.{slots}
+use Rattle.finish.proofs.WalkLaws.{walked-backward, walked-forward}
+use borrow.Author.Needs.{needs}
+use Rattle.finish.proofs.walk.walk.Statement.{statement}
+use Rattle.finish.proofs.walk.walk.Tie as tie
+
+is-forward-requires : tie.Need-is-forward-requires
+is-forward-requires c κs = search needs
+
+slots-between-requires : tie.Need-slots-between-requires
+slots-between-requires c κs = search needs
+
+step-all-requires : tie.Need-step-all-requires
+step-all-requires c κs = search needs
+
+returns : tie.Need-returns
+returns c =
+    let b = c .before .before in
+    let a = b .before .before .before .before .args in
+    walked-forward (a .d) (slots (a .line .now)) (slots (c .before .slots-between .result .now)) (a .i) (a .j) (a .j) (a .i) true (val (a .from .x)) (val (a .from .y))
+    (omega arith) (omega arith) (lt-ltb (a .j) (a .i) (b .before .before .if1 .taken))
+    (sym (b .before .is-forward .ensures) ∙ b .if2 .taken) (c .before .slots-between .ensures .0) (c .step-all .ensures)
+
+add-slots-between : tie.Need-add-slots-between
+add-slots-between c = search needs
+
+add-slots-between-2 : tie.Need-add-slots-between-2
+add-slots-between-2 c = search needs
+
+slots-between-requires-2 : tie.Need-slots-between-requires-2
+slots-between-requires-2 c κs = search needs
+
+step-all-requires-2 : tie.Need-step-all-requires-2
+step-all-requires-2 c κs = search needs
+
+returns-2 : tie.Need-returns-2
+returns-2 c =
+    let b = c .before .before in
+    let a = b .before .before .before .before .args in
+    walked-backward (a .d) (slots (a .line .now)) (slots (c .before .slots-between2 .result .now)) (a .i) (a .j) (a .j) (a .i) true (val (a .from .x)) (val (a .from .y))
+    (omega arith) (omega arith) (lt-ltb (a .j) (a .i) (b .before .before .if1 .taken))
+    (sym (b .before .is-forward .ensures) ∙ b .if2 .left) (c .before .slots-between2 .ensures .0) (c .step-all2 .ensures)
+
+is-forward-requires-2 : tie.Need-is-forward-requires-2
+is-forward-requires-2 c κs = search needs
+
+slots-between-requires-3 : tie.Need-slots-between-requires-3
+slots-between-requires-3 c κs = search needs
+
+step-all-requires-3 : tie.Need-step-all-requires-3
+step-all-requires-3 c κs = search needs
+
+returns-3 : tie.Need-returns-3
+returns-3 c =
+    let b = c .before .before in
+    let a = b .before .before .before .before .args in
+    walked-forward (a .d) (slots (a .line .now)) (slots (c .before .slots-between3 .result .now)) (a .i) (a .j) (a .i) (a .j) false (val (a .from .x)) (val (a .from .y))
+    (omega arith) (omega arith) (le-ltb (a .j) (a .i) (b .before .before .if1 .left))
+    (sym (b .before .is-forward2 .ensures) ∙ b .if3 .taken) (c .before .slots-between3 .ensures .0) (c .step-all3 .ensures)
+
+add-slots-between-3 : tie.Need-add-slots-between-3
+add-slots-between-3 c = search needs
+
+add-slots-between-4 : tie.Need-add-slots-between-4
+add-slots-between-4 c = search needs
+
+slots-between-requires-4 : tie.Need-slots-between-requires-4
+slots-between-requires-4 c κs = search needs
+
+step-all-requires-4 : tie.Need-step-all-requires-4
+step-all-requires-4 c κs = search needs
+
+returns-4 : tie.Need-returns-4
+returns-4 c =
+    let b = c .before .before in
+    let a = b .before .before .before .before .args in
+    walked-backward (a .d) (slots (a .line .now)) (slots (c .before .slots-between4 .result .now)) (a .i) (a .j) (a .i) (a .j) false (val (a .from .x)) (val (a .from .y))
+    (omega arith) (omega arith) (le-ltb (a .j) (a .i) (b .before .before .if1 .left))
+    (sym (b .before .is-forward2 .ensures) ∙ b .if3 .left) (c .before .slots-between4 .ensures .0) (c .step-all4 .ensures)
+
+pub walk-spec : {M : Type 1} → statement M
+walk-spec =
+    tie.close
+    (tie.spec
+    is-forward-requires
+    slots-between-requires
+    step-all-requires
+    returns
+    add-slots-between
+    add-slots-between-2
+    slots-between-requires-2
+    step-all-requires-2
+    returns-2
+    is-forward-requires-2
+    slots-between-requires-3
+    step-all-requires-3
+    returns-3
+    add-slots-between-3
+    add-slots-between-4
+    slots-between-requires-4
+    step-all-requires-4
+    returns-4)
