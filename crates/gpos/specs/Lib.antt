@@ -1,3 +1,4 @@
 pub mod Tests
 pub mod Start
 pub mod Finish
+pub mod Single

@@ -2,7 +2,9 @@
 // says; the work is done by the cores below. A refusal or a decline leaves the line as it was.
 mod checks;
 mod finishing;
+mod single_pos;
 mod starting;
 
 pub use finishing::finish;
+pub use single_pos::single;
 pub use starting::start;

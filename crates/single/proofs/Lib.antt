@@ -1,0 +1,2 @@
+pub mod SinglePosLaws
+pub mod Examples

@@ -1,0 +1,2 @@
+pub mod SinglePos
+pub mod Place
