@@ -5,18 +5,16 @@ use mathlib.Core.List.{List}
 use Prim.Native.Nat.{ℕ}
 use Rattle.ints.specs.BigEndian.{Bytes}
 use Rattle.slots.specs.Axis.{directionOf}
-use Rattle.slots.specs.Slot.{Slot}
-use Rattle.slots.specs.Line.{bytes, slots}
+use Rattle.slots.specs.Line.{slots}
 use Rattle.slots.proofs.LineLaws.{slots-bytes, slots-storable}
 use Rattle.finish.specs.Demand3.{Bounded, Demand3}
 use Rattle.finish.specs.Finish.{finished}
 use Rattle.finish.proofs.Storable.{finished-storable}
 use Rattle.finish.proofs.Theorem.{demand3}
-use Rattle.answers.specs.Said.{Said, done}
+use Rattle.answers.specs.Said.{Said}
 use Rattle.answers.specs.Outcome.{lineAfter}
-use Rattle.answers.specs.declared.Done.{Done}
 use Rattle.answers.specs.declared.Done.the-variants.{Done as DoneNow}
-use Rattle.gpos.specs.Finish.{Finished, finishSaid}
+use Rattle.gpos.specs.Finish.{Finished}
 
 -- the line l of bytes was finished, with the attachment flag set, and became l′
 pub finish-demand3 : (l : List ℕ) (direction limit : ℕ) (l′ : List ℕ) → Bytes l → Finished l direction limit true DoneNow l′ → Bounded limit (slots l)

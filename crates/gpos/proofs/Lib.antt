@@ -1,4 +1,5 @@
 pub mod TestLaws
 pub mod ApplyingLaws
+pub mod NeighbourLaws
 pub mod Demand3
 pub mod Unique

@@ -1,4 +1,6 @@
 pub mod Tests
+pub mod Neighbours
 pub mod Start
 pub mod Finish
 pub mod Single
+pub mod Cursive

@@ -1,10 +1,13 @@
 // Glyph positioning on lines of slots: the public calls. Each takes any bytes and any numbers, checks each argument once, and answers as document 01
 // says; the work is done by the cores below. A refusal or a decline leaves the line as it was.
 mod checks;
+mod cursive_pos;
 mod finishing;
+mod neighbours;
 mod single_pos;
 mod starting;
 
+pub use cursive_pos::cursive;
 pub use finishing::finish;
 pub use single_pos::single;
 pub use starting::start;

@@ -2,11 +2,11 @@
 use mathlib.Core.Path.{_≡_, refl, sym, ap, _∙_}
 use mathlib.Core.List.{List, [], _∷_, _++_, append-assoc}
 use Prim.Native.Nat.{ℕ, zero, suc, _+_, _*_, _/_, _%_, _^_, _<_, _≤_}
-use native.Mathlib.Nat.{pow-suc, add-zero, add-suc}
+use native.Mathlib.Nat.{pow-suc, add-zero}
 use native.Mathlib.Omega.{arith}
 use native.Mathlib.Numerals.{add-one}
 use lib.ListN.{length, getD, set, take, drop, length-append, length-drop, take-append-drop}
-use lib.Seq.{drop-cons, drop-drop, getD-at, getD-drop, getD-set-other, getD-set-same, length-sets, length-take-le, sets, sets-eq, take-suc}
+use lib.Seq.{drop-drop, getD-at, getD-drop, getD-set-other, getD-set-same, length-sets, length-take-le, sets, sets-eq, take-suc}
 use Rattle.ints.specs.BigEndian.{Bytes, digits, natAt, withNat}
 
 -- ---- the bytes of a number

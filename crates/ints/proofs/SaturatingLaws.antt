@@ -1,6 +1,6 @@
 -- Laws of clamping to 32 bits, and of the sums that code computes on v + 2 ^ 31. Assumes nothing.
 use mathlib.Core.Path.{_≡_, refl, sym, ap, _∙_}
-use Prim.Native.Nat.{ℕ, suc, _+_, _*_, _-_, _%_, _<_, _≤_}
+use Prim.Native.Nat.{ℕ, _+_, _-_, _%_, _<_, _≤_}
 use native.Mathlib.Decide.{decLe, decLt}
 use native.Mathlib.Omega.{arith}
 use borrow.Author.Tests.{lt-ltb, le-ltb}
@@ -9,9 +9,9 @@ use lib.IntN.{ℤ, pos, negsuc, negℤ, natAbs, _+ℤ_, _-ℤ_}
 use lib.Signed.{ltZ, mag}
 use Rattle.ints.specs.Signed.{InBytes, signed, val}
 use Rattle.ints.specs.Saturating.{clamp32, less, minus, negated, plus}
-use Rattle.ints.proofs.Ints.{add-diff, diff, diff-of, dn, dn-diff, eq-diff, lt-diff, neg-diff, pos-diff, sub-pos, up, up-diff}
+use Rattle.ints.proofs.Ints.{add-diff, diff, diff-of, dn, dn-diff, eq-diff, lt-diff, neg-diff, sub-pos, up, up-diff}
 use Rattle.ints.proofs.SignedLaws.{signed-high, signed-low}
-use Rattle.ints.proofs.SizeLaws.{abs-add, abs-diff, abs-neg, abs-parts, abs-sub, mag-abs, mag-up}
+use Rattle.ints.proofs.SizeLaws.{abs-add, abs-neg, abs-parts, abs-sub, mag-abs, mag-up}
 
 -- ---- clamping, of an integer a - b
 low-test : (a b : ℕ) → ltZ (diff a b) (minus 2147483648) ≡ ltb (a + 2147483648) (0 + b)

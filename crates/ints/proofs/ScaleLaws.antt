@@ -4,7 +4,7 @@ use Prim.Native.Nat.{ℕ, suc, _+_, _*_, _-_, _/_, _%_, _<_, _≤_}
 use native.Mathlib.Nat.{add-mul-div-right, div-add-mod', div-lt-iff-lt-mul, div-mul-le-self, le-div-iff-mul-le, lt-div-mul-add, mod-lt}
 use native.Mathlib.Omega.{arith}
 use lib.Arith.{digits-div}
-use lib.IntN.{ℤ, pos, negsuc, natAbs, _+ℤ_, _*ℤ_}
+use lib.IntN.{ℤ, pos, negsuc, _+ℤ_, _*ℤ_}
 use lib.Signed.{_≤ℤ_}
 use Rattle.ints.specs.Saturating.{minus}
 use Rattle.ints.specs.Scale.{floorDiv, scaled}

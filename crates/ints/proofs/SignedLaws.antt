@@ -1,15 +1,14 @@
 -- Laws of two's complement, once over the width. Assumes nothing.
 use mathlib.Core.Path.{_≡_, refl, sym, ap, _∙_}
 use mathlib.Core.List.{List, _++_}
-use Prim.Native.Nat.{ℕ, zero, suc, _+_, _*_, _-_, _/_, _%_, _^_, _<_, _≤_}
+use Prim.Native.Nat.{ℕ, zero, suc, _+_, _-_, _%_, _^_, _<_, _≤_}
 use native.Mathlib.Nat.{pow-suc}
 use native.Mathlib.Decide.{decLt}
 use native.Mathlib.Omega.{arith}
 use borrow.Author.Tests.{lt-ltb, le-ltb}
 use lib.IntN.{ℤ, pos, negsuc}
 use lib.ListN.{length, take, drop}
-use lib.Signed.{mag}
-use Rattle.ints.specs.BigEndian.{Bytes, digits, natAt, withNat}
+use Rattle.ints.specs.BigEndian.{Bytes, digits, natAt}
 use Rattle.ints.specs.Signed.{half, InBytes, intAt, pattern, signed, val, withInt}
 use Rattle.ints.proofs.Ints.{by-sign, diff, eq-diff, negsuc-diff, pos-diff, sub-pos}
 use Rattle.ints.proofs.BigEndianLaws.{digits-natAt, length-withNat, natAt-after, natAt-before, natAt-digits, natAt-fits, natAt-withNat, withNat-natAt}

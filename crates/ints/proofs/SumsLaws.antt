@@ -1,10 +1,10 @@
 -- Sums of at most n integers within b of zero stay within n b, and nothing saturates. Assumes nothing.
 use mathlib.Core.Path.{_≡_, refl, sym, ap, _∙_}
 use mathlib.Core.List.{List, [], _∷_, _++_}
-use Prim.Native.Nat.{ℕ, zero, suc, _+_, _*_, _≤_, _<_}
+use Prim.Native.Nat.{ℕ, zero, suc, _+_, _*_, _≤_}
 use native.Mathlib.Omega.{arith}
-use lib.IntN.{ℤ, pos, negℤ, natAbs, _+ℤ_, _-ℤ_, +ℤ-assoc, +ℤ-idl, +ℤ-idr}
-use lib.ListN.{length, getD, take, drop}
+use lib.IntN.{ℤ, negℤ, natAbs, _+ℤ_, _-ℤ_, +ℤ-assoc, +ℤ-idl, +ℤ-idr}
+use lib.ListN.{length, take, drop}
 use Rattle.ints.specs.Saturating.{less, plus}
 use Rattle.ints.specs.Sums.{lessAll, Near, plusAll, stepwise, total}
 use Rattle.ints.proofs.Ints.{bal-add, bal-neg, omegaℤ}

@@ -3,14 +3,14 @@ use mathlib.Core.Path.{_≡_, refl}
 use mathlib.Core.List.{List, []}
 use Prim.Native.Nat.{ℕ, _<_}
 use native.Mathlib.Omega.{arith}
-use lib.IntN.{ℤ, pos}
+use lib.IntN.{ℤ}
 use lib.ListN.{length, getD, set}
 use Rattle.ints.specs.BigEndian.{digits, natAt, withNat}
 use Rattle.ints.specs.Signed.{InBytes, intAt, signed, withInt}
 use Rattle.ints.proofs.BigEndianLaws.{natAt-digits}
 use Rattle.ints.proofs.SignedLaws.{intAt-digits}
-use Rattle.slots.specs.Slot.{Slot, slotOf, slotSize}
-use Rattle.slots.specs.Fields.{attached, byteAt, byteOf, measure, measureAt, withByte, withChain, withGlyph, withMeasure}
+use Rattle.slots.specs.Slot.{slotOf, slotSize}
+use Rattle.slots.specs.Fields.{byteAt, byteOf, measure, measureAt, withByte, withChain, withGlyph, withMeasure}
 use Rattle.slots.specs.Start.{unattached}
 use Rattle.slots.specs.declared.axis.Axis.{Axis}
 use Rattle.slots.specs.declared.axis.Axis.the-variants.{X, Y}

@@ -1,13 +1,13 @@
 -- Laws of the line: its bytes and its slots, a slot lent and put back, a part of whole slots. Assumes nothing.
 use mathlib.Core.Path.{_≡_, refl, sym, ap, _∙_}
-use mathlib.Core.List.{List, [], _∷_, _++_, map, append-assoc}
+use mathlib.Core.List.{List, [], _∷_, _++_, append-assoc}
 use Prim.Native.Nat.{ℕ, zero, suc, _+_, _-_, _*_, _/_, _%_, _<_, _≤_}
 use native.Mathlib.Omega.{arith}
 use lib.ListN.{length, getD, set, take, drop, length-append, length-drop, length-set, take-append-drop}
 use lib.Seq.{take-at, drop-at, drop-drop, take-add, length-take-le, getD-drop, getD-set-other, getD-set-same, set-set, slice, take-nil}
 use borrow.Rule.Slice.PartMut.{midOf, putMid, same-len-mid}
 use Rattle.ints.specs.BigEndian.{Bytes}
-use Rattle.slots.specs.Slot.{Slot, bytesOf, noSlot, slotOf, slotSize, Storable}
+use Rattle.slots.specs.Slot.{Slot, bytesOf, noSlot, slotOf, slotSize}
 use Rattle.slots.specs.Line.{AllStorable, bytes, count, slot, slots, slotsN, update}
 use Rattle.slots.proofs.SlotLaws.{bytesOf-slotOf, length-bytesOf, slotOf-bytesOf, slotOf-storable}
 

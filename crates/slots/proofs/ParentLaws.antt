@@ -4,10 +4,9 @@ use Prim.Native.Nat.{ℕ, zero, suc, _+_, _-_, _<_, _≤_}
 use native.Mathlib.Omega.{arith}
 use borrow.Author.Tests.{lt-ltb, le-ltb}
 use lib.IntN.{ℤ, pos, negsuc, _+ℤ_, _-ℤ_}
-use Rattle.ints.proofs.Ints.{add-diff, by-sign, diff, eq-diff, pos-add-diff, sub-pos}
+use Rattle.ints.proofs.Ints.{by-sign, diff, pos-add-diff, sub-pos}
 use Rattle.slots.specs.Parent.{parentBy, placed}
-use Rattle.slots.specs.declared.parent.Parent.{Parent}
-use Rattle.slots.specs.declared.parent.Parent.the-variants.{None, Outside, At}
+use Rattle.slots.specs.declared.parent.Parent.the-variants.{Outside, At}
 
 -- a chain that isn't 0 leads to slot number plus chain
 attached-at : (n i : ℕ) (z : ℤ) → (z ≡ pos 0 → ⊥) → parentBy n i z ≡ placed n (pos i +ℤ z)

@@ -1,11 +1,11 @@
 -- A slot and its 24 bytes: both round trips. Assumes nothing.
 use mathlib.Core.Path.{_≡_, refl}
-use mathlib.Core.List.{List, [], _∷_, _++_, append-assoc}
-use Prim.Native.Nat.{ℕ, _<_, _≤_}
+use mathlib.Core.List.{List, []}
+use Prim.Native.Nat.{ℕ}
 use native.Mathlib.Omega.{arith}
 use lib.ListN.{length}
 use Rattle.ints.specs.BigEndian.{Bytes, digits, natAt}
-use Rattle.ints.specs.Signed.{intAt, pattern}
+use Rattle.ints.specs.Signed.{intAt}
 use Rattle.ints.proofs.BigEndianLaws.{digits-natAt, natAt-digits, natAt-fits}
 use Rattle.ints.proofs.SignedLaws.{digits-intAt, intAt-digits, intAt-in}
 use Rattle.slots.specs.Slot.{Slot, bytesOf, slotOf, slotSize, Storable}

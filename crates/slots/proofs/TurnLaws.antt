@@ -1,12 +1,12 @@
 -- A loop that changes each slot in turn by f: the first i slots are done. Assumes nothing.
-use mathlib.Core.Path.{_≡_, refl, ap, _∙_}
+use mathlib.Core.Path.{_≡_, refl, ap}
 use mathlib.Core.List.{List, [], _∷_, map}
 use Prim.Native.Nat.{ℕ, zero, suc, _+_, _<_}
 use native.Mathlib.Omega.{arith}
 use native.Mathlib.Numerals.{add-one}
 use lib.ListN.{length}
 use Rattle.slots.specs.Slot.{Slot}
-use Rattle.slots.specs.Line.{slot, update}
+use Rattle.slots.specs.Line.{update}
 
 -- the first i slots changed
 abbrev pub mapTo : (Slot → Slot) → ℕ → List Slot → List Slot

@@ -3,7 +3,6 @@ use crate::fields::SLOT_SIZE;
 ghost use mathlib.Core.Path.{_≡_};
 ghost use lib.ListN.{length};
 ghost use Rattle.slots.specs.Slot.{slotOf, slotSize};
-ghost use Rattle.slots.specs.Line.{slots};
 ghost use Rattle.slots.specs.Checks.{misshapen, outOfRange, unranged};
 
 pub const MOST_SLOTS: usize = 1024;

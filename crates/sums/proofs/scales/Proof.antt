@@ -1,7 +1,5 @@
 -- 3 and -3 are small, and the scale is in range. Assumes nothing.
-use mathlib.Core.Path.{refl}
 use native.Mathlib.Omega.{arith}
-use Rattle.ints.specs.Scale.{InScale}
 use Rattle.ints.specs.Signed.{signed}
 use borrow.Author.Needs.{needs}
 use Rattle.sums.proofs.scales.Statement.{statement}

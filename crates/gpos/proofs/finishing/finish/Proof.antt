@@ -1,19 +1,15 @@
 -- A refusal is the checks'; else the finished slots decide the bytes, and without attachments the line is its own. Assumes nothing.
 use mathlib.Core.Path.{_≡_, sym, ap, _∙_}
-use mathlib.Core.Bool.{Bool, true, false}
-use mathlib.Core.List.{List}
+use mathlib.Core.Bool.{Bool, true}
 use lib.Dec.{ltb}
-use lib.ListN.{length}
 use Rattle.slots.specs.Axis.{directionOf}
-use Rattle.slots.specs.Slot.{Slot}
 use Rattle.slots.specs.Line.{bytes, slots}
 use Rattle.slots.specs.declared.axis.Direction.{Direction}
 use Rattle.slots.proofs.LineLaws.{bytes-slots}
 use Rattle.finish.specs.Finish.{finished}
-use Rattle.answers.specs.Said.{done, refused, refusalNumber, saidDone, unless}
+use Rattle.answers.specs.Said.{done, saidDone}
 use Rattle.answers.proofs.OutcomeLaws.{changed, outcome-done, outcome-refused, shapely}
 use Rattle.gpos.specs.Finish.{finishSaid}
-use Rattle.gpos.specs.Tests.{lineTests}
 use Rattle.gpos.proofs.TestLaws.{clear}
 use borrow.Author.Needs.{needs}
 use Rattle.gpos.proofs.finishing.finish.Statement.{statement}

@@ -1,9 +1,8 @@
 -- A refusal is that of the first test that holds; else the core's effect decides the line. Assumes nothing.
 use mathlib.Core.Path.{_≡_, sym, ap, _∙_, subst}
-use mathlib.Core.Bool.{Bool, true, false, not}
-use mathlib.Core.List.{List}
+use mathlib.Core.Bool.{Bool, not}
 use native.Mathlib.Omega.{arith}
-use borrow.Author.Tests.{le-leb, lt-leb, not-true, not-false}
+use borrow.Author.Tests.{le-leb, lt-leb, not-false}
 use lib.Dec.{leb}
 use Rattle.slots.specs.Axis.{directionOf}
 use Rattle.slots.specs.Line.{count, slots}

@@ -1,10 +1,9 @@
 -- What is asked of the whole line is asked of the slots that are left. Assumes nothing.
 use mathlib.Core.Path.{_≡_, refl, sym, ap, _∙_}
-use Prim.Native.Nat.{ℕ, _+_, _-_, _*_, _/_, _≤_, _<_}
+use Prim.Native.Nat.{_+_, _-_, _*_, _≤_}
 use native.Mathlib.Omega.{arith}
 use borrow.Author.Needs.{needs}
-use lib.ListN.{drop, length}
-use Rattle.slots.specs.Slot.{slotSize}
+use lib.ListN.{drop}
 use Rattle.slots.specs.Line.{count, slot, slots}
 use Rattle.slots.specs.Checks.{outOfRange, some}
 use Rattle.slots.proofs.LineLaws.{length-part, length-slots, line-get}

@@ -1,6 +1,5 @@
 -- Bytes 6 and 7 of the slot are its chain. Assumes nothing.
-use mathlib.Core.Path.{_≡_, refl, sym, ap, _∙_}
-use native.Mathlib.Omega.{arith}
+use mathlib.Core.Path.{ap, _∙_}
 use Rattle.slots.specs.Slot.{Slot, slotOf}
 use borrow.Author.Needs.{needs}
 use Rattle.slots.proofs.fields.chain.Statement.{statement}

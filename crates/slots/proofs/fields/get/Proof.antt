@@ -1,6 +1,6 @@
 -- The four bytes at the measure's place are the measure. Assumes nothing.
-use mathlib.Core.Path.{_≡_, refl, sym, ap, _∙_}
-use Prim.Native.Nat.{ℕ, _+_, _-_, _*_, _/_, _≤_, _<_}
+use mathlib.Core.Path.{ap, _∙_}
+use Prim.Native.Nat.{_-_}
 use Rattle.ints.specs.Signed.{intAt}
 use Rattle.slots.specs.Fields.{measure}
 use Rattle.slots.proofs.FieldLaws.{measure-get}

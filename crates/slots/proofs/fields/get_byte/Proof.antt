@@ -1,8 +1,7 @@
 -- The byte at the field's place is the field. Assumes nothing.
-use mathlib.Core.Path.{_≡_, refl, sym, ap, _∙_}
-use Prim.Native.Nat.{ℕ, _+_, _-_, _*_, _/_, _≤_, _<_}
+use mathlib.Core.Path.{ap, _∙_}
+use Prim.Native.Nat.{ℕ, _-_}
 use lib.ListN.{getD}
-use Rattle.slots.specs.Slot.{slotOf}
 use Rattle.slots.specs.Fields.{byteOf}
 use Rattle.slots.proofs.FieldLaws.{byte-get}
 use borrow.Author.Needs.{needs}

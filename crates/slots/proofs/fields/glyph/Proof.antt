@@ -1,5 +1,5 @@
 -- The first two bytes of the slot are its glyph. Assumes nothing.
-use mathlib.Core.Path.{_≡_, refl, sym, ap, _∙_}
+use mathlib.Core.Path.{ap, _∙_}
 use native.Mathlib.Omega.{arith}
 use Rattle.slots.specs.Slot.{Slot, slotOf}
 use borrow.Author.Needs.{needs}

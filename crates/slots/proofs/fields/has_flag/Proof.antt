@@ -1,5 +1,5 @@
 -- Each arm tests the bit of its flag. Assumes nothing.
-use mathlib.Core.Path.{_≡_, refl, sym, ap, _∙_}
+use mathlib.Core.Path.{sym, ap, _∙_}
 use Rattle.slots.specs.Fields.{flagIn}
 use Rattle.slots.specs.Line.{slot, slots}
 use Rattle.slots.specs.declared.fields.Flag.{Flag}

@@ -1,13 +1,12 @@
 -- A byte put into the lent slot is a change of one field. Assumes nothing.
-use Prim.Native.Nat.{ℕ, _+_, _-_, _*_, _/_, _≤_, _<_}
+use Prim.Native.Nat.{_+_, _-_, _*_}
 use native.Mathlib.Omega.{arith}
-use mathlib.Core.Path.{_≡_, refl, sym, ap, _∙_}
+use mathlib.Core.Path.{_≡_}
 use lib.ListN.{length}
 use borrow.Rule.Slice.PartMut.{midOf}
-use Rattle.slots.specs.Slot.{slotOf, slotSize}
+use Rattle.slots.specs.Slot.{slotSize}
 use Rattle.slots.specs.Fields.{withByte}
 use Rattle.slots.proofs.LineLaws.{length-part, line-update}
-use Rattle.slots.proofs.FieldLaws.{byte-put}
 use borrow.Author.Needs.{needs}
 use Rattle.slots.proofs.fields.set_byte.Statement.{statement}
 use Rattle.slots.proofs.fields.set_byte.Tie as tie

@@ -1,9 +1,9 @@
 -- The part of 24 bytes at i * 24 is slot i. Assumes nothing.
-use Prim.Native.Nat.{ℕ, _+_, _-_, _*_, _/_, _≤_, _<_}
+use Prim.Native.Nat.{_+_, _-_, _*_}
 use native.Mathlib.Omega.{arith}
 use Rattle.slots.specs.Slot.{slotSize}
 use Rattle.slots.proofs.LineLaws.{length-part, line-get}
-use mathlib.Core.Path.{_≡_, refl, sym, ap, _∙_}
+use mathlib.Core.Path.{_≡_}
 use borrow.Author.Needs.{needs}
 use Rattle.slots.proofs.fields.slot_at.Statement.{statement}
 use Rattle.slots.proofs.fields.slot_at.Tie as tie

@@ -1,10 +1,9 @@
 -- A part of whole slots is those slots. Assumes nothing.
-use Prim.Native.Nat.{ℕ, _+_, _-_, _*_, _/_, _≤_, _<_}
+use Prim.Native.Nat.{_-_, _*_}
 use native.Mathlib.Omega.{arith}
-use mathlib.Core.Path.{_≡_, refl, sym, ap, _∙_}
+use mathlib.Core.Path.{_≡_, refl}
 use lib.ListN.{length, drop, length-drop}
 use lib.Seq.{length-take-le}
-use Rattle.slots.specs.Slot.{slotSize}
 use Rattle.slots.proofs.LineLaws.{slots-part}
 use borrow.Author.Needs.{needs}
 use Rattle.slots.proofs.fields.slots_between.Statement.{statement}

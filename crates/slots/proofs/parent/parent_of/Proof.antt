@@ -1,13 +1,12 @@
 -- Slot number plus chain, computed 2 ^ 31 higher: below that it is before the line, from the count up it is past it. Assumes nothing.
-use mathlib.Core.Path.{_≡_, refl, sym, ap, _∙_, subst}
-use Prim.Native.Nat.{ℕ, _+_, _-_, _≤_, _<_}
+use mathlib.Core.Path.{_≡_, sym, ap, _∙_}
+use Prim.Native.Nat.{ℕ, _-_, _<_}
 use native.Mathlib.Omega.{arith}
-use native.Mathlib.Decide.{decLt}
-use lib.IntN.{ℤ, pos}
+use lib.IntN.{pos}
 use lib.ListN.{length}
 use Rattle.ints.specs.Signed.{pattern, signed, val}
 use Rattle.ints.proofs.SignedLaws.{pattern-signed}
-use Rattle.slots.specs.Line.{count, slot, slots}
+use Rattle.slots.specs.Line.{slot, slots}
 use Rattle.slots.specs.Parent.{parent, parentBy}
 use Rattle.slots.proofs.LineLaws.{length-slots}
 use Rattle.slots.proofs.ParentLaws.{parent-above, parent-below, parent-in}

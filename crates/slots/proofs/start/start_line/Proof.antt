@@ -1,11 +1,10 @@
 -- After i turns the first i slots are unattached. Assumes nothing.
-use mathlib.Core.Path.{_≡_, refl, sym, ap, _∙_}
-use Prim.Native.Nat.{ℕ, _+_, _-_, _*_, _/_, _≤_, _<_}
+use mathlib.Core.Path.{_≡_, refl, ap, _∙_}
+use Prim.Native.Nat.{ℕ, _+_, _-_, _*_, _≤_}
 use native.Mathlib.Omega.{arith}
 use borrow.Author.Needs.{needs}
 use lib.ListN.{length}
 use borrow.Rule.Slice.PartMut.{putMid, same-len-mid}
-use Rattle.slots.specs.Slot.{slotSize}
 use Rattle.slots.specs.Line.{count, slots, update}
 use Rattle.slots.specs.Start.{unattached}
 use Rattle.slots.proofs.LineLaws.{length-part, length-slots, line-update}

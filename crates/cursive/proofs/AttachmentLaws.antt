@@ -1,0 +1,111 @@
+-- What code makes of the line, call by call, is what the definitions say. Assumes nothing.
+use mathlib.Core.Bool.{Bool, true, false, _&&_}
+use mathlib.Core.List.{List}
+use mathlib.Core.Path.{_≡_, refl, sym, ap, ap₂, _∙_}
+use Prim.Native.Nat.{ℕ, _%_, _<_}
+use native.Mathlib.Omega.{arith}
+use borrow.Author.Tests.{eq-eqb, le-leb, leb-true, ne-eqb}
+use lib.Dec.{leb}
+use lib.IntN.{ℤ, pos, negsuc, negℤ}
+use lib.ListN.{length}
+use lib.Signed.{leZ}
+use Rattle.ints.specs.Saturating.{less, negated, plus}
+use Rattle.ints.specs.Signed.{InBytes, pattern, signed, val}
+use Rattle.ints.proofs.SaturatingLaws.{negated-exact}
+use Rattle.ints.proofs.SignedLaws.{pattern-signed}
+use Rattle.ints.proofs.SizeLaws.{mag-abs}
+use Rattle.slots.specs.Slot.{Slot}
+use Rattle.slots.specs.Line.{slot, update}
+use Rattle.slots.specs.Fields.{advance, attached, offset, withChain, withMeasure}
+use Rattle.slots.specs.declared.axis.Axis.{Axis}
+use Rattle.slots.specs.declared.fields.Measure.the-variants.{Advance, Offset}
+use Rattle.slots.proofs.LineLaws.{update-same}
+use Rattle.slots.specs.Axis.{cross, main}
+use Rattle.slots.specs.declared.axis.Direction.{Direction}
+use Rattle.tables.specs.Anchor.{Spot}
+use Rattle.tables.proofs.SpansLaws.{and-left, and-right}
+use Rattle.cursive.specs.Attachment.{crossed, ended, hung, joinedAt, previousJoined, pulled, rightToLeft, sameAs, scaledAt, separatedBy, thisJoined, tied}
+use Rattle.cursive.specs.Chains.{chainTo}
+use Rattle.cursive.specs.Reversal.{reversed}
+use Rattle.cursive.proofs.ReversalLaws.{length-reversed}
+use Rattle.cursive.proofs.UpdateLaws.{update-as, update-both}
+
+-- ---- along the line
+module _ (a : Axis) (i : ℕ) (ss : List Slot) (z : ℤ) {o : ℤ} (offset-is : o ≡ offset a (slot ss i)) where
+  pub ended-is : {v : ℤ} {ss₁ : List Slot} → v ≡ plus z o → ss₁ ≡ update i (withMeasure Advance a v) ss → ss₁ ≡ update i (ended a z) ss
+  ended-is {v} v-is e = e ∙ update-as i ss (withMeasure Advance a v) (ended a z) (rw (v-is, offset-is))
+
+  pub pulled-is : {d m v w : ℤ} {ss₁ ss₂ : List Slot} → i < length ss → d ≡ advance a (slot ss i) → m ≡ plus z o → v ≡ less d m
+      → ss₁ ≡ update i (withMeasure Advance a v) ss → w ≡ less o m → ss₂ ≡ update i (withMeasure Offset a w) ss₁ → ss₂ ≡ update i (pulled a z) ss
+  pulled-is {d} {m} {v} {w} lt d-is m-is v-is e₁ w-is e₂ =
+      update-both i ss (withMeasure Advance a v) (withMeasure Offset a w) lt e₁ e₂
+      ∙ update-as i ss (λ s. withMeasure Offset a w (withMeasure Advance a v s)) (pulled a z) (rw (w-is, v-is, m-is, d-is, offset-is))
+
+-- ---- across it
+-- the test for the same integer
+same-self : (z : ℤ) → sameAs z z ≡ true
+same-self (pos n) = simp (le-leb n n (omega arith))
+same-self (negsuc n) = simp (le-leb n n (omega arith))
+
+same-eq : (z w : ℤ) → sameAs z w ≡ true → z ≡ w
+same-eq (pos a) (pos b) e = ap pos (omega (arith, leb-true a b (and-left _ _ e), leb-true b a (and-right (leb a b) _ e)))
+same-eq (pos a) (negsuc b) e = let z : _≡_ {A = ℕ} 0 1 = cc in absurd (omega arith)
+same-eq (negsuc a) (pos b) e = let z : _≡_ {A = ℕ} 0 1 = cc in absurd (omega arith)
+same-eq (negsuc a) (negsuc b) e = ap negsuc (omega (arith, leb-true b a (and-left _ _ e), leb-true a b (and-right (leb b a) _ e)))
+
+same-ne : (z w : ℤ) → (z ≡ w → ⊥) → sameAs z w ≡ false
+same-ne z w ne = go (sameAs z w) refl
+  where
+    go : (t : Bool) → sameAs z w ≡ t → sameAs z w ≡ false
+    go true e = absurd (ne (same-eq z w e))
+    go false e = e
+
+-- code compares patterns: one for each integer
+val-same : (v w : ℕ) → v < 4294967296 → w < 4294967296 → val v ≡ val w → v ≡ w
+val-same v w h k e = sym (pattern-signed 4 v h) ∙ ap (pattern 4) e ∙ pattern-signed 4 w k
+
+module _ (a : Axis) (parent : ℕ) (ss : List Slot) (chain here back : ℕ) (small : InBytes 2 (val chain)) (here-is : val here ≡ slot ss parent .chain)
+    (back-is : val back ≡ negated (val chain)) where
+  back-exact : val back ≡ negℤ (val chain)
+  back-exact = back-is ∙ negated-exact (val chain) (omega (arith, mag-abs (val chain)))
+
+  -- the parent hangs on something else, or on nothing
+  pub stays : here < 4294967296 → back < 4294967296 → (here ≡ back → ⊥) → ss ≡ separatedBy a (val chain) parent ss
+  unfolding separatedBy
+  stays h k ne = simp (same-ne (slot ss parent .chain) (negℤ (val chain)) (λ e. ne (val-same here back h k (here-is ∙ e ∙ sym back-exact))))
+
+  -- it was attached to the child
+  pub separates : {ss₁ ss₂ : List Slot} → parent < length ss → here ≡ back → ss₁ ≡ update parent (withMeasure Offset a (val 0)) ss
+      → ss₂ ≡ update parent (withChain (val 0)) ss₁ → ss₂ ≡ separatedBy a (val chain) parent ss
+  unfolding separatedBy signed
+  separates lt e e₁ e₂ =
+      let z : slot ss parent .chain ≡ negℤ (val chain) = sym here-is ∙ ap val e ∙ back-exact in
+      let t : sameAs (slot ss parent .chain) (negℤ (val chain)) ≡ true = rw z (same-self (negℤ (val chain))) in
+      simp t (update-both parent ss (withMeasure Offset a (val 0)) (withChain (val 0)) lt e₁ e₂)
+
+-- reversed, hung and separated
+pub tied-is : (a : Axis) (child parent : ℕ) (z : ℤ) (ss : List Slot) {c : ℤ} {ss₁ ss₂ ss₃ : List Slot} → child < length ss → ss₁ ≡ reversed a ss child parent
+    → c ≡ chainTo child parent → ss₂ ≡ update child (λ s. attached 2 c (withMeasure Offset a z s)) ss₁ → ss₃ ≡ separatedBy a c parent ss₂
+    → ss₃ ≡ tied a child parent z ss
+unfolding tied
+tied-is a child parent z ss {c} {ss₁} {ss₂} lt e₁ c-is e₂ e₃ =
+    let hangs : ss₂ ≡ hung a child parent z ss = e₂ ∙ rw (c-is, e₁) in
+    let in-line : child < length (reversed a ss child parent) = rw (length-reversed a ss child parent) lt in
+    let has : slot (hung a child parent z ss) child .chain ≡ c = ap (λ (s : Slot). s .chain) (update-same child _ (reversed a ss child parent) in-line) ∙ sym c-is in
+    e₃ ∙ ap₂ (λ (x : ℤ) (l : List Slot). separatedBy a x parent l) (sym has) hangs
+
+-- child and parent by the flag
+module _ (a : Axis) (flag i idx : ℕ) (exit entry : ℤ) (ss : List Slot) {m : ℤ} {ss₁ : List Slot} (between : m ≡ less entry exit) where
+  pub crossed-set : flag % 2 ≡ 1 → ss₁ ≡ tied a i idx m ss → ss₁ ≡ crossed a (rightToLeft flag) i idx exit entry ss
+  crossed-set f e = simp (eq-eqb (flag % 2) 1 f) (e ∙ rw between)
+
+  pub crossed-clear : (flag % 2 ≡ 1 → ⊥) → {n : ℤ} → n ≡ negated m → ss₁ ≡ tied a idx i n ss → ss₁ ≡ crossed a (rightToLeft flag) i idx exit entry ss
+  crossed-clear f neg e = simp (ne-eqb (flag % 2) 1 f) (e ∙ rw (neg, between))
+
+-- ---- both: the anchors scaled one by one, on the axes that code found
+pub joined-is : (s u : ℕ) (d : Direction) (flag i idx : ℕ) (exit entry : Spot) (ss : List Slot) {along across : Axis} {z₁ z₂ z₃ z₄ : ℤ} {ss₁ ss₂ ss₃ : List Slot}
+    → along ≡ main d → across ≡ cross d → z₁ ≡ scaledAt s u along exit → ss₁ ≡ update i (previousJoined d z₁) ss
+    → z₂ ≡ scaledAt s u along entry → ss₂ ≡ update idx (thisJoined d z₂) ss₁ → z₃ ≡ scaledAt s u across exit → z₄ ≡ scaledAt s u across entry
+    → ss₃ ≡ crossed across (rightToLeft flag) i idx z₃ z₄ ss₂ → ss₃ ≡ joinedAt s u d flag i idx exit entry ss
+unfolding joinedAt
+joined-is s u d flag i idx exit entry ss m c e₁ l₁ e₂ l₂ e₃ e₄ l₃ = l₃ ∙ rw (l₂, l₁, e₄, e₃, e₂, e₁, c, m)

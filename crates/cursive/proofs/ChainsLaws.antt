@@ -1,0 +1,73 @@
+-- Chains as code computes them. Assumes nothing.
+use mathlib.Core.Path.{_≡_, refl, sym, ap, _∙_}
+use mathlib.Core.Logic.{_⊎_, inl, inr, ⊎-elim}
+use Prim.Native.Nat.{ℕ, zero, suc, _+_, _-_, _<_, _≤_}
+use native.Mathlib.Nat.{eq-or-lt-of-le}
+use native.Mathlib.Omega.{arith}
+use borrow.Author.Tests.{le-ltb, lt-ltb}
+use lib.IntN.{ℤ, pos, negsuc, natAbs, negℤ}
+use lib.Signed.{mag}
+use Rattle.ints.specs.Saturating.{negated}
+use Rattle.ints.specs.Signed.{InBytes, pattern, signed, val}
+use Rattle.ints.proofs.Ints.{by-sign, diff, sub-pos}
+use Rattle.ints.proofs.SaturatingLaws.{negated-exact}
+use Rattle.ints.proofs.SignedLaws.{pattern-signed, signed-high, signed-low}
+use Rattle.cursive.specs.Chains.{chainTo, reach}
+
+-- a distance that fits 16 bits is its own chain; any other leaves the slot unattached
+pub reach-near : (z : ℤ) → mag z < 32768 → reach z ≡ z
+reach-near z h = simp (lt-ltb (mag z) 32768 h)
+
+reach-far : (z : ℤ) → 32768 ≤ mag z → reach z ≡ pos 0
+reach-far z h = simp (le-ltb (mag z) 32768 h)
+
+-- ---- the chain from a child to a parent
+module _ (child parent : ℕ) where
+  -- n stands for the distance, which fits
+  near : (n : ℕ) → val n ≡ diff parent child → parent < child + 32768 → child ≤ parent + 32768 → (val n ≡ chainTo child parent) × InBytes 2 (val n)
+  near n e h k =
+      let m : mag (diff parent child) < 32768 = by-sign (λ z. mag z < 32768) parent child (λ l. omega arith) (λ l. omega arith) in
+      (e ∙ sym (ap reach (sub-pos parent child) ∙ reach-near (diff parent child) m), rw e m)
+
+  pub chain-on : child ≤ parent → parent - child < 32768 → (val (parent - child) ≡ chainTo child parent) × InBytes 2 (val (parent - child))
+  chain-on h k = near (parent - child) (signed-low 4 (parent - child) parent child (omega arith) (omega arith)) (omega arith) (omega arith)
+
+  pub chain-before : parent < child → child - parent ≤ 32768
+      → (val (4294967296 - (child - parent)) ≡ chainTo child parent) × InBytes 2 (val (4294967296 - (child - parent)))
+  chain-before h k =
+      near (4294967296 - (child - parent)) (signed-high 4 (4294967296 - (child - parent)) parent child (omega arith) (omega arith)) (omega arith) (omega arith)
+
+  pub chain-far : (child + 32768 ≤ parent) ⊎ (parent + 32768 < child) → (val 0 ≡ chainTo child parent) × InBytes 2 (val 0)
+  unfolding signed
+  chain-far h =
+      let m : 32768 ≤ mag (diff parent child) = ⊎-elim
+      (λ k. by-sign (λ z. 32768 ≤ mag z) parent child (λ l. omega arith) (λ l. absurd (omega arith)))
+      (λ k. by-sign (λ z. 32768 ≤ mag z) parent child (λ l. absurd (omega arith)) (λ l. omega arith)) h in
+      (sym (ap reach (sub-pos parent child) ∙ reach-far (diff parent child) m), omega arith)
+
+-- 0 is a chain
+pub zero-fits : InBytes 2 (val 0)
+unfolding signed
+zero-fits = omega arith
+
+-- ---- a chain negated
+-- the least number of 16 bits has no negation of 16 bits
+pub back-least : (val 0 ≡ reach (negℤ (val 4294934528))) × InBytes 2 (val 0)
+unfolding signed
+back-least = (refl, omega arith)
+
+neg-fits : (z : ℤ) → natAbs z ≤ 32768 → (z ≡ negsuc 32767 → ⊥) → mag (negℤ z) < 32768
+neg-fits (pos zero) h ne = omega arith
+neg-fits (pos (suc n)) h ne = omega arith
+neg-fits (negsuc n) h ne =
+    let le : n ≤ 32767 = omega arith in
+    ⊎-elim (λ e. absurd (ne (ap negsuc e))) (λ l. omega arith) (eq-or-lt-of-le le)
+
+pub back-other : (v r : ℕ) → v < 4294967296 → (v ≡ 4294934528 → ⊥) → natAbs (val v) ≤ 32768 → val r ≡ negated (val v)
+    → (val r ≡ reach (negℤ (val v))) × InBytes 2 (val r)
+unfolding pattern
+back-other v r lt ne h e =
+    let other : val v ≡ negsuc 32767 → ⊥ = λ q. ne (sym (pattern-signed 4 v lt) ∙ ap (pattern 4) q) in
+    let m : mag (negℤ (val v)) < 32768 = neg-fits (val v) h other in
+    let is : val r ≡ negℤ (val v) = e ∙ negated-exact (val v) (omega arith) in
+    (is ∙ sym (reach-near (negℤ (val v)) m), rw is m)

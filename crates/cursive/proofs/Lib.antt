@@ -1,0 +1,9 @@
+pub mod UpdateLaws
+pub mod CursivePosLaws
+pub mod ChainsLaws
+pub mod ReversalLaws
+pub mod AttachmentLaws
+pub mod DecisionLaws
+pub mod BackLaws
+pub mod Sound
+pub mod Examples

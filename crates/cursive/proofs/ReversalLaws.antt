@@ -1,0 +1,196 @@
+-- Reversal: each call that goes on clears one attached slot; and one equation for each way through it. Assumes nothing.
+use mathlib.Core.Bool.{Bool, true, false, not}
+use mathlib.Core.List.{List}
+use mathlib.Core.Path.{_≡_, refl, sym, ap, _∙_}
+use Prim.Native.Nat.{ℕ, zero, suc, _/_, _%_, _<_}
+use native.Mathlib.Omega.{arith}
+use borrow.Author.Tests.{eq-eqb, ltb-true, ne-eqb}
+use lib.Dec.{eqb, ltb}
+use lib.IntN.{ℤ, pos, negsuc, natAbs, negℤ, _+ℤ_}
+use lib.ListN.{length}
+use Rattle.ints.specs.Choice.{if_then_else_}
+use Rattle.ints.specs.Saturating.{negated}
+use Rattle.ints.specs.Signed.{signed, val}
+use Rattle.slots.specs.Slot.{Slot}
+use Rattle.slots.specs.Line.{slot, update}
+use Rattle.slots.specs.Fields.{attached, offset, withChain, withMeasure}
+use Rattle.slots.specs.Parent.{byParent, parent, parentBy, placed}
+use Rattle.slots.specs.declared.axis.Axis.{Axis}
+use Rattle.slots.specs.declared.fields.Measure.the-variants.{Offset}
+use Rattle.slots.specs.declared.parent.Parent.{Parent}
+use Rattle.slots.specs.declared.parent.Parent.the-variants.{None, Outside, At}
+use Rattle.slots.proofs.LineLaws.{length-update, update-other, update-same}
+use Rattle.counts.proofs.TallyLaws.{tally-drop}
+use Rattle.cursive.specs.Chains.{attachedCount, cleared, cursiveBit, isAttached, reach}
+use Rattle.cursive.specs.Reversal.{reversed, reversedIn, turned}
+
+-- ---- parents
+-- a slot without a chain has no parent
+pub parent-free : (ss : List Slot) (i : ℕ) → slot ss i .chain ≡ pos 0 → parent ss i ≡ None
+unfolding parent
+parent-free ss i e = ap (parentBy (length ss) i) e
+
+-- and a slot without a parent has no chain
+placed-never : (n : ℕ) (z : ℤ) → placed n z ≡ None → ⊥
+placed-never n (negsuc k) e = let z : _≡_ {A = ℕ} 0 1 = cc in omega arith
+placed-never n (pos k) e = go (ltb k n) refl
+  where
+    go : (t : Bool) → ltb k n ≡ t → ⊥
+    go true t = let w : At k ≡ None = rw t at e in let z : _≡_ {A = ℕ} 0 1 = cc in omega arith
+    go false t = let w : Outside ≡ None = rw t at e in let z : _≡_ {A = ℕ} 0 1 = cc in omega arith
+
+by-none : (n i : ℕ) (z : ℤ) → parentBy n i z ≡ None → z ≡ pos 0
+by-none n i (pos zero) e = refl
+by-none n i (pos (suc c)) e = absurd (placed-never n (pos i +ℤ pos (suc c)) e)
+by-none n i (negsuc c) e = absurd (placed-never n (pos i +ℤ negsuc c) e)
+
+pub free-chain : (ss : List Slot) (i : ℕ) → parent ss i ≡ None → slot ss i .chain ≡ pos 0
+unfolding parent
+free-chain ss i e = by-none (length ss) i (slot ss i .chain) e
+
+-- a parent that has a place is in the line
+placed-in : (n : ℕ) (z : ℤ) (j : ℕ) → placed n z ≡ At j → j < n
+placed-in n (negsuc k) j e = let z : _≡_ {A = ℕ} 0 1 = cc in absurd (omega arith)
+placed-in n (pos k) j e = go (ltb k n) refl
+  where
+    go : (t : Bool) → ltb k n ≡ t → j < n
+    go true t =
+        let same : k ≡ j = let w : At k ≡ At j = rw t at e in cc in
+        omega (arith, ltb-true k n t)
+    go false t = let w : Outside ≡ At j = rw t at e in let z : _≡_ {A = ℕ} 0 1 = cc in absurd (omega arith)
+
+by-in : (n i : ℕ) (z : ℤ) (j : ℕ) → parentBy n i z ≡ At j → j < n
+by-in n i (pos zero) j e = let z : _≡_ {A = ℕ} 0 1 = cc in absurd (omega arith)
+by-in n i (pos (suc c)) j e = placed-in n (pos i +ℤ pos (suc c)) j e
+by-in n i (negsuc c) j e = placed-in n (pos i +ℤ negsuc c) j e
+
+pub parent-in : (ss : List Slot) (i j : ℕ) → parent ss i ≡ At j → j < length ss
+unfolding parent
+parent-in ss i j e = by-in (length ss) i (slot ss i .chain) j e
+
+-- ---- the measure
+abs-zero : (z : ℤ) → natAbs z ≡ 0 → z ≡ pos 0
+abs-zero (pos n) e = ap pos e
+abs-zero (negsuc n) e = absurd (omega arith)
+
+-- clearing a slot that has a parent leaves one attached slot less
+pub attached-clear : (ss : List Slot) (i : ℕ) → i < length ss → (parent ss i ≡ None → ⊥) → attachedCount ss ≡ suc (attachedCount (cleared ss i))
+unfolding attachedCount cleared
+attached-clear ss i lt ne = rw (length-update i (withChain (pos 0)) ss)
+    (tally-drop (isAttached ss) (isAttached (update i (withChain (pos 0)) ss)) (length ss) i lt
+    (ap not (ne-eqb (natAbs (slot ss i .chain)) 0 (λ e. ne (parent-free ss i (abs-zero (slot ss i .chain) e)))))
+    (ap (λ (s : Slot). not (eqb (natAbs (s .chain)) 0)) (update-same i (withChain (pos 0)) ss lt))
+    (λ k other. ap (λ (s : Slot). not (eqb (natAbs (s .chain)) 0)) (sym (update-other i (withChain (pos 0)) ss k other))))
+
+-- ---- the number of slots stays
+pub length-cleared : (ss : List Slot) (i : ℕ) → length (cleared ss i) ≡ length ss
+unfolding cleared
+length-cleared ss i = length-update i (withChain (pos 0)) ss
+
+pub length-turned : (a : Axis) (was : Slot) (ss : List Slot) (i j : ℕ) → length (turned a was ss i j) ≡ length ss
+unfolding turned
+length-turned a was ss i j = length-update j _ ss
+
+-- what holds on each way through a call holds
+ways : (P : List Slot → Type 0) (same clear : List Slot) (on : ℕ → List Slot) (p : ℕ) → P same → P clear → ((j : ℕ) → P (on j))
+    → (t : Bool) (q : Parent) → P (if t then byParent q same clear (λ j. if eqb j p then clear else on j) else same)
+ways P same clear on p s c o false q = s
+ways P same clear on p s c o true None = s
+ways P same clear on p s c o true Outside = c
+ways P same clear on p s c o true (At j) = go (eqb j p)
+  where
+    go : (t : Bool) → P (if t then clear else on j)
+    go true = c
+    go false = o j
+
+length-reversedIn : (n : ℕ) (a : Axis) (ss : List Slot) (i p : ℕ) → length (reversedIn n a ss i p) ≡ length ss
+unfolding reversedIn
+length-reversedIn zero a ss i p = refl
+length-reversedIn (suc n) a ss i p =
+    ways (λ r. length r ≡ length ss) ss (cleared ss i) (λ j. turned a (slot ss i) (reversedIn n a (cleared ss i) j p) i j) p refl (length-cleared ss i)
+    (λ j. length-turned a (slot ss i) (reversedIn n a (cleared ss i) j p) i j ∙ length-reversedIn n a (cleared ss i) j p ∙ length-cleared ss i)
+    (cursiveBit (slot ss i .attachType)) (parent ss i)
+
+pub length-reversed : (a : Axis) (ss : List Slot) (i p : ℕ) → length (reversed a ss i p) ≡ length ss
+unfolding reversed
+length-reversed a ss i p = length-reversedIn (attachedCount ss) a ss i p
+
+-- ---- the ways through
+alike : (t : Bool) (ss : List Slot) → (if t then ss else ss) ≡ ss
+alike true ss = refl
+alike false ss = refl
+
+module _ (a : Axis) (ss : List Slot) (i p : ℕ) where
+  -- a type without the cursive bit: nothing changes
+  pub reversed-plain : cursiveBit (slot ss i .attachType) ≡ false → reversed a ss i p ≡ ss
+  unfolding reversed reversedIn
+  reversed-plain e = go (attachedCount ss)
+    where
+      go : (n : ℕ) → reversedIn n a ss i p ≡ ss
+      go zero = refl
+      go (suc n) = simp e
+
+  -- no parent: nothing changes
+  pub reversed-free : parent ss i ≡ None → reversed a ss i p ≡ ss
+  unfolding reversed reversedIn
+  reversed-free e = go (attachedCount ss)
+    where
+      go : (n : ℕ) → reversedIn n a ss i p ≡ ss
+      go zero = refl
+      go (suc n) = rw e (alike (cursiveBit (slot ss i .attachType)) ss)
+
+  module _ (lt : i < length ss) (bit : cursiveBit (slot ss i .attachType) ≡ true) where
+    fuel : (q : Parent) → parent ss i ≡ q → (q ≡ None → ⊥) → attachedCount ss ≡ suc (attachedCount (cleared ss i))
+    fuel q e ne = attached-clear ss i lt (λ n. ne (sym e ∙ n))
+
+    -- a parent outside the line: the chain is cleared
+    pub reversed-outside : parent ss i ≡ Outside → reversed a ss i p ≡ cleared ss i
+    unfolding reversed reversedIn
+    reversed-outside e =
+        rw (fuel Outside e (λ n. let z : _≡_ {A = ℕ} 0 1 = cc in omega arith)) (simp (bit, e))
+
+    module _ (j : ℕ) (e : parent ss i ≡ At j) where
+      fuel-at : attachedCount ss ≡ suc (attachedCount (cleared ss i))
+      fuel-at = fuel (At j) e (λ n. let z : _≡_ {A = ℕ} 0 1 = cc in omega arith)
+
+      -- the new parent: the chain is cleared
+      pub reversed-new : j ≡ p → reversed a ss i p ≡ cleared ss i
+      unfolding reversed reversedIn
+      reversed-new new = rw fuel-at (simp (bit, e, eq-eqb j p new))
+
+      -- else the parent's own chain is reversed, and the parent is hung onto this slot
+      pub reversed-on : (j ≡ p → ⊥) → reversed a ss i p ≡ turned a (slot ss i) (reversed a (cleared ss i) j p) i j
+      unfolding reversed reversedIn
+      reversed-on other = rw fuel-at (simp (bit, e, ne-eqb j p other))
+
+-- ---- the same over code's variables
+module _ (a : Axis) (ss : List Slot) (i p : ℕ) {kind : ℕ} (is : kind ≡ slot ss i .attachType) where
+  pub stays-plain : (kind / 2 % 2 ≡ 1 → ⊥) → ss ≡ reversed a ss i p
+  stays-plain ne = sym (reversed-plain a ss i p (rw is at (ne-eqb (kind / 2 % 2) 1 ne)))
+
+  module _ (lt : i < length ss) (one : kind / 2 % 2 ≡ 1) {ss₁ : List Slot} (clears : ss₁ ≡ update i (withChain (val 0)) ss) where
+    bit : cursiveBit (slot ss i .attachType) ≡ true
+    bit = rw is at (eq-eqb (kind / 2 % 2) 1 one)
+
+    is-cleared : ss₁ ≡ cleared ss i
+    unfolding cleared signed
+    is-cleared = clears
+
+    pub ends-outside : parent ss i ≡ Outside → ss₁ ≡ reversed a ss i p
+    ends-outside e = is-cleared ∙ sym (reversed-outside a ss i p lt bit e)
+
+    pub ends-new : (j : ℕ) → parent ss i ≡ At j → j ≡ p → ss₁ ≡ reversed a ss i p
+    ends-new j e new = is-cleared ∙ sym (reversed-new a ss i p lt bit j e new)
+
+    -- the number of attached slots falls
+    pub falls-at : (j : ℕ) → parent ss i ≡ At j → attachedCount ss ≡ suc (attachedCount ss₁)
+    falls-at j e = rw is-cleared (fuel-at a ss i p lt bit j e)
+
+    pub goes-on : (j : ℕ) → parent ss i ≡ At j → (j ≡ p → ⊥) → {ss₂ ss₃ : List Slot} {chain off neg back : ℤ} → chain ≡ slot ss i .chain
+        → ss₂ ≡ reversed a ss₁ j p → off ≡ offset a (slot ss₂ i) → neg ≡ negated off → back ≡ reach (negℤ chain)
+        → ss₃ ≡ update j (λ s. attached kind back (withMeasure Offset a neg s)) ss₂ → ss₃ ≡ reversed a ss i p
+    unfolding turned
+    goes-on j e other {ss₂} chain-is after off-is neg-is back-is hangs =
+        let r : ss₂ ≡ reversed a (cleared ss i) j p = after ∙ ap (λ (l : List Slot). reversed a l j p) is-cleared in
+        rw (reversed-on a ss i p lt bit j e other, ← r)
+        (hangs ∙ rw (back-is, neg-is, off-is, chain-is, is))

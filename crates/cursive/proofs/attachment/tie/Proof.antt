@@ -1,0 +1,46 @@
+-- `cursive::attachment::tie` meets its contract: reversed, hung, separated, and the child's chain is the one that was just written. Assumes nothing.
+use native.Mathlib.Omega.{arith}
+use denote.Ref.{now}
+use Rattle.ints.specs.Signed.{val}
+use Rattle.slots.specs.Line.{slots}
+use Rattle.slots.proofs.LineLaws.{length-slots}
+use Rattle.cursive.proofs.AttachmentLaws.{tied-is}
+use borrow.Author.Needs.{needs}
+use Rattle.cursive.proofs.attachment.tie.Statement.{statement}
+use Rattle.cursive.proofs.attachment.tie.Tie as tie
+
+reverse-requires : tie.Need-reverse-requires
+reverse-requires c κs = search needs
+
+chain-to-requires : tie.Need-chain-to-requires
+chain-to-requires c κs = search needs
+
+hang-requires : tie.Need-hang-requires
+hang-requires c κs = search needs
+
+separate-requires : tie.Need-separate-requires
+separate-requires c κs = search needs
+
+same-length : tie.Need-same-length
+same-length c = search needs
+
+returns : tie.Need-returns
+returns c =
+    let h = c .before .before .before .before .before .before in
+    let n = h .before .before in
+    let r = n .before .before .before in
+    let s = r .before .before .before in
+    let a = s .args in
+    tied-is (a .a) (a .child) (a .parent) (val (a .z)) (slots (now (a .line))) (omega (arith, length-slots (now (a .line)), s .pre .0))
+    (r .reverse .ensures) (n .chain-to .ensures .0) (h .hang .ensures) (c .before .before .separate .ensures)
+
+pub tie-spec : {M : Type 1} → statement M
+tie-spec =
+    tie.close
+    (tie.spec
+    reverse-requires
+    chain-to-requires
+    hang-requires
+    separate-requires
+    same-length
+    returns)

@@ -1,0 +1,77 @@
+-- `cursive::subtable::from_neighbour` meets its contract: a neighbour that is named is before this slot, and so in the line; else the missing part is
+-- reported. Assumes nothing.
+use mathlib.Core.Path.{subst}
+use native.Mathlib.Omega.{arith}
+use denote.Ref.{now}
+use Rattle.slots.specs.Line.{slots}
+use Rattle.tables.specs.Anchor.{spotOf}
+use Rattle.answers.specs.declared.Neighbour.{Neighbour}
+use Rattle.cursive.specs.CursivePos.{fromNeighbour, fromPrevious, indexOf, Plan}
+use Rattle.cursive.specs.Decision.{Before}
+use Rattle.cursive.proofs.DecisionLaws.{found, sound-stop, told}
+use borrow.Author.Needs.{needs}
+use Rattle.cursive.proofs.subtable.from_neighbour.Statement.{statement}
+use Rattle.cursive.proofs.subtable.from_neighbour.Tie as tie
+
+-- the plan that a neighbour leads to
+abbrev by-neighbour : tie.Start → Neighbour → Plan
+by-neighbour s n = fromNeighbour (now (s .args .t)) (slots (now (s .args .line))) (s .args .idx) n (spotOf (s .args .entry))
+
+enum-known-previous : tie.Need-enum-known-previous
+enum-known-previous c = search needs
+
+glyph-requires : tie.Need-glyph-requires
+glyph-requires c κs =
+    let s = c .before .before .before .before .before in
+    omega (arith, subst (Before (s .args .idx)) (c .before .previous .given .1) (s .pre .1))
+
+index-of-requires : tie.Need-index-of-requires
+index-of-requires c κs = search needs
+
+from-previous-requires : tie.Need-from-previous-requires
+from-previous-requires c κs =
+    let k = c .before .before .before in
+    let s = k .before .before .before .before in
+    (subst (Before (s .args .idx)) (k .previous .given .1) (s .pre .1), omega arith, s .pre .2, s .pre .3)
+
+enum-known-previous-2 : tie.Need-enum-known-previous-2
+enum-known-previous-2 c = search needs
+
+add-stop-from : tie.Need-add-stop-from
+add-stop-from c = search needs
+
+stop-from-requires : tie.Need-stop-from-requires
+stop-from-requires c κs = search needs
+
+returns : tie.Need-returns
+returns c =
+    let k = c .before .before .before .before in
+    let s = k .before .before .before .before in
+    let a = s .args in
+    let t = now (a .t) in (
+      told (by-neighbour s) (k .previous .given .1)
+          (found (fromPrevious t (a .idx) (k .previous .given .0 .0) (spotOf (a .entry))) (found (indexOf t) (c .before .before .glyph .ensures .0) (c .before .index-of .ensures)) (c .from-previous .ensures .0)),
+      c .from-previous .ensures .1,
+    )
+
+returns-2 : tie.Need-returns-2
+returns-2 c =
+    let k = c .before .before in
+    let s = k .before .before .before .before in (
+      told (by-neighbour s) (k .previous2 .given .1) (c .stop-from .ensures .0),
+      sound-stop (s .args .idx) (c .stop-from .result) (c .stop-from .ensures .1),
+    )
+
+pub from-neighbour-spec : {M : Type 1} → statement M
+from-neighbour-spec =
+    tie.close
+    (tie.spec
+    enum-known-previous
+    glyph-requires
+    index-of-requires
+    from-previous-requires
+    enum-known-previous-2
+    add-stop-from
+    stop-from-requires
+    returns
+    returns-2)

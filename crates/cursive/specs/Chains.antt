@@ -1,0 +1,36 @@
+-- Chains as numbers of 16 bits. Assumes nothing.
+use mathlib.Core.Bool.{Bool, not}
+use mathlib.Core.List.{List}
+use Prim.Native.Nat.{ℕ, _/_, _%_}
+use lib.Dec.{eqb, ltb}
+use lib.IntN.{ℤ, pos, natAbs, _-ℤ_}
+use lib.ListN.{length}
+use lib.Signed.{mag}
+use Rattle.ints.specs.Choice.{if_then_else_}
+use Rattle.slots.specs.Slot.{Slot}
+use Rattle.slots.specs.Line.{slot, update}
+use Rattle.slots.specs.Fields.{withChain}
+use Rattle.counts.specs.Tally.{tally}
+
+-- the chain for a distance: 0, not attached, where the distance doesn't fit 16 bits
+abbrev pub reach : ℤ → ℤ
+reach z = if ltb (mag z) 32768 then z else pos 0
+
+-- the chain by which a child hangs on a parent
+abbrev pub chainTo : ℕ → ℕ → ℤ
+chainTo child parent = reach (pos parent -ℤ pos child)
+
+-- the type has the cursive bit
+abbrev pub cursiveBit : ℕ → Bool
+cursiveBit kind = eqb (kind / 2 % 2) 1
+
+-- the line with slot i unattached
+unfoldable pub cleared : List Slot → ℕ → List Slot
+cleared ss i = update i (withChain (pos 0)) ss
+
+-- how many slots are attached
+abbrev pub isAttached : List Slot → ℕ → Bool
+isAttached ss i = not (eqb (natAbs (slot ss i .chain)) 0)
+
+unfoldable pub attachedCount : List Slot → ℕ
+attachedCount ss = tally (isAttached ss) (length ss)

@@ -1,0 +1,5 @@
+pub mod CursivePos
+pub mod Decision
+pub mod Chains
+pub mod Reversal
+pub mod Attachment

@@ -1,0 +1,48 @@
+// Cursive attachment.
+use crate::checks::check_line;
+use crate::checks::is_off_scale;
+use crate::neighbours::is_bad_previous;
+use answers::Answer;
+use answers::Done;
+use answers::Neighbour;
+use answers::Refusal;
+use slots::axis::direction_of;
+ghost use Rattle.gpos.specs.Cursive.{Cursived};
+
+// Joins slot `index`, by its entry anchor, to the previous slot that the caller names, by its exit anchor, in a CursivePos subtable. Of the lookup's flag only
+// RIGHT_TO_LEFT, 0x0001, is looked at. Refusals 1 to 6.
+pub fn cursive(
+    line: &mut [u8],
+    subtable: &[u8],
+    direction: u32,
+    s: u32,
+    u: u32,
+    index: usize,
+    previous: Neighbour,
+    flag: u32,
+) -> Answer
+    ensures { λ r. ⌜ Cursived (now (line .entry)) (now (subtable .entry)) direction s u index previous flag r (now (line .exit)) ⌝ }
+{
+    let checked = check_line(line, direction, is_off_scale(s, u));
+    match checked {
+        Done::Refused(r) => Answer::Refused(r),
+        Done::Done => {
+            if is_bad_previous(slots::fields::slot_count(line), index, previous) {
+                return Answer::Refused(Refusal::Index);
+            }
+            if !cursive::subtable::is_good(subtable) {
+                return Answer::Refused(Refusal::Subtable);
+            }
+            cursive::attachment::attach(
+                line,
+                subtable,
+                direction_of(direction),
+                s,
+                u,
+                index,
+                previous,
+                flag,
+            )
+        }
+    }
+}
