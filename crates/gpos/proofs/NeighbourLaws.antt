@@ -6,8 +6,9 @@ use borrow.Author.Tests.{leb-false}
 use lib.Dec.{leb}
 use Rattle.answers.specs.declared.Neighbour.{Neighbour}
 use Rattle.answers.specs.declared.Neighbour.the-variants.{At, Missing}
+use Rattle.pair.specs.Codes.{After}
 use Rattle.cursive.specs.Decision.{Before}
-use Rattle.gpos.specs.Neighbours.{badBefore}
+use Rattle.gpos.specs.Neighbours.{badAfter, badBefore}
 use Rattle.gpos.proofs.TestLaws.{or-false}
 
 pub index-in : (n i : ℕ) (bad : Bool) → leb n i || bad ≡ false → (i < n) × (bad ≡ false)
@@ -17,3 +18,8 @@ index-in n i bad e = let f = or-false (leb n i) bad e in (leb-false n i (f .0), 
 pub before : (n i : ℕ) (b : Neighbour) → badBefore n i b ≡ false → Before i b
 before n i (At k) e = leb-false i k e
 before n i (Missing f) e = tt
+
+-- a second glyph that is named is after the index and in the line
+pub after : (n i : ℕ) (b : Neighbour) → badAfter n i b ≡ false → After n i b
+after n i (At j) e = let f = or-false (leb j i) (leb n j) e in (leb-false j i (f .0), leb-false n j (f .1))
+after n i (Missing m) e = tt

@@ -1,33 +1,37 @@
 -- Each public call leaves one answer and one line: two results that meet its contract are equal, answer and bytes. Assumes nothing.
 use mathlib.Core.Path.{_≡_}
-use mathlib.Core.Bool.{Bool, not}
+use mathlib.Core.Bool.{Bool}
 use mathlib.Core.List.{List}
 use Prim.Native.Nat.{ℕ}
-use lib.Dec.{leb}
-use Rattle.slots.specs.Axis.{directionOf}
-use Rattle.slots.specs.Line.{count, slots}
-use Rattle.slots.specs.Start.{started}
-use Rattle.finish.specs.Finish.{finished}
-use Rattle.single.specs.SinglePos.{singled, singleGood, singleSaid}
-use Rattle.answers.specs.Said.{unless}
-use Rattle.answers.specs.declared.Answer.{Answer}
-use Rattle.answers.specs.declared.Done.{Done}
+use Rattle.marks.specs.declared.subtable.Kind.{Kind}
+use Rattle.answers.specs.declared.Neighbour.{Neighbour}
 use Rattle.answers.proofs.OutcomeLaws.{one-answer, one-done}
-use Rattle.gpos.specs.Start.{Started, startSaid}
-use Rattle.gpos.specs.Finish.{Finished, finishSaid}
+use Rattle.gpos.specs.Start.{Started}
+use Rattle.gpos.specs.Finish.{Finished}
 use Rattle.gpos.specs.Single.{Singled}
-use Rattle.gpos.specs.Tests.{applyingTests}
+use Rattle.gpos.specs.Pair.{Paired}
+use Rattle.gpos.specs.Cursive.{Cursived}
+use Rattle.gpos.specs.Marks.{Marked}
 
-pub start-unique : (l : List ℕ) (r₁ r₂ : Done) (l₁ l₂ : List ℕ) → Started l r₁ l₁ → Started l r₂ l₂ → (r₁ ≡ r₂) × (l₁ ≡ l₂)
-start-unique l r₁ r₂ l₁ l₂ p q = one-done l (startSaid l) (started (slots l)) l₁ l₂ r₁ r₂ p q
+-- at most one answer and one line meet a contract
+abbrev pub Unique : {R : Type 0} → (R → List ℕ → Type 0) → Type 0
+Unique {R} Meets = (r₁ r₂ : R) (l₁ l₂ : List ℕ) → Meets r₁ l₁ → Meets r₂ l₂ → (r₁ ≡ r₂) × (l₁ ≡ l₂)
 
-pub finish-unique : (l : List ℕ) (direction limit : ℕ) (flag : Bool) (r₁ r₂ : Done) (l₁ l₂ : List ℕ) → Finished l direction limit flag r₁ l₁ → Finished l direction limit flag r₂ l₂
-    → (r₁ ≡ r₂) × (l₁ ≡ l₂)
-finish-unique l direction limit flag r₁ r₂ l₁ l₂ p q =
-    one-done l (finishSaid l direction limit) (finished (directionOf direction) limit flag (slots l)) l₁ l₂ r₁ r₂ p q
+pub start-unique : (l : List ℕ) → Unique (Started l)
+start-unique l r₁ r₂ l₁ l₂ p q = one-done l _ _ l₁ l₂ r₁ r₂ p q
 
-pub single-unique : (l t : List ℕ) (direction s u i : ℕ) (r₁ r₂ : Answer) (l₁ l₂ : List ℕ) → Singled l t direction s u i r₁ l₁ → Singled l t direction s u i r₂ l₂
-    → (r₁ ≡ r₂) × (l₁ ≡ l₂)
-single-unique l t direction s u i r₁ r₂ l₁ l₂ p q =
-    one-answer l (unless (applyingTests l direction s u (leb (count l) i) (not (singleGood t))) (singleSaid t (slots l) i))
-    (singled s u (directionOf direction) t i (slots l)) l₁ l₂ r₁ r₂ p q
+pub finish-unique : (l : List ℕ) (direction limit : ℕ) (flag : Bool) → Unique (Finished l direction limit flag)
+finish-unique l direction limit flag r₁ r₂ l₁ l₂ p q = one-done l _ _ l₁ l₂ r₁ r₂ p q
+
+module _ (l t : List ℕ) (direction s u i : ℕ) where
+  pub single-unique : Unique (Singled l t direction s u i)
+  single-unique r₁ r₂ l₁ l₂ p q = one-answer l _ _ l₁ l₂ r₁ r₂ p q
+
+  pub pair-unique : (second : Neighbour) → Unique (Paired l t direction s u i second)
+  pair-unique second r₁ r₂ l₁ l₂ p q = one-answer l _ _ l₁ l₂ r₁ r₂ p q
+
+  pub cursive-unique : (previous : Neighbour) (flag : ℕ) → Unique (Cursived l t direction s u i previous flag)
+  cursive-unique previous flag r₁ r₂ l₁ l₂ p q = one-answer l _ _ l₁ l₂ r₁ r₂ p q
+
+  pub mark-unique : (kind : Kind) → Unique (Marked kind l t direction s u i)
+  mark-unique kind r₁ r₂ l₁ l₂ p q = one-answer l _ _ l₁ l₂ r₁ r₂ p q

@@ -3,11 +3,16 @@
 mod checks;
 mod cursive_pos;
 mod finishing;
+mod mark_pos;
 mod neighbours;
+mod pair_pos;
 mod single_pos;
 mod starting;
 
 pub use cursive_pos::cursive;
 pub use finishing::finish;
+pub use mark_pos::mark_base;
+pub use mark_pos::mark_ligature;
+pub use pair_pos::pair;
 pub use single_pos::single;
 pub use starting::start;

@@ -1,0 +1,65 @@
+// Mark attachment, to a base or to a ligature.
+use crate::checks::check_line;
+use crate::checks::is_off_scale;
+use answers::Answer;
+use answers::Done;
+use answers::Refusal;
+use marks::subtable::Kind;
+use slots::axis::direction_of;
+ghost use Rattle.marks.specs.declared.subtable.Kind.the-variants.{Base, Ligature};
+ghost use Rattle.gpos.specs.Marks.{Marked};
+
+// One call for both kinds.
+fn mark(
+    line: &mut [u8],
+    subtable: &[u8],
+    kind: Kind,
+    direction: u32,
+    s: u32,
+    u: u32,
+    index: usize,
+) -> Answer
+    ensures { λ r. ⌜ Marked kind (now (line .entry)) (now (subtable .entry)) direction s u index r (now (line .exit)) ⌝ }
+{
+    let checked = check_line(line, direction, is_off_scale(s, u));
+    match checked {
+        Done::Refused(r) => Answer::Refused(r),
+        Done::Done => {
+            if slots::fields::slot_count(line) <= index {
+                return Answer::Refused(Refusal::Index);
+            }
+            if !marks::subtable::is_good(subtable) {
+                return Answer::Refused(Refusal::Subtable);
+            }
+            marks::attachment::attach(line, subtable, kind, direction_of(direction), s, u, index)
+        }
+    }
+}
+
+// Attaches the mark in slot `index` to the nearest base before it, by a MarkBasePos subtable. The caller clears the seen bit on marks. Refusals 1 to 7.
+pub fn mark_base(
+    line: &mut [u8],
+    subtable: &[u8],
+    direction: u32,
+    s: u32,
+    u: u32,
+    index: usize,
+) -> Answer
+    ensures { λ r. ⌜ Marked Base (now (line .entry)) (now (subtable .entry)) direction s u index r (now (line .exit)) ⌝ }
+{
+    mark(line, subtable, Kind::Base, direction, s, u, index)
+}
+
+// Attaches the mark in slot `index` to a component of the nearest ligature before it, by a MarkLigPos subtable. Refusals 1 to 7.
+pub fn mark_ligature(
+    line: &mut [u8],
+    subtable: &[u8],
+    direction: u32,
+    s: u32,
+    u: u32,
+    index: usize,
+) -> Answer
+    ensures { λ r. ⌜ Marked Ligature (now (line .entry)) (now (subtable .entry)) direction s u index r (now (line .exit)) ⌝ }
+{
+    mark(line, subtable, Kind::Ligature, direction, s, u, index)
+}

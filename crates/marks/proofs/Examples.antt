@@ -1,0 +1,141 @@
+-- Worked values: the sums of document 01 that concern marks, and what is easy to get wrong, at lines and a subtable that are written out. They compute.
+-- Assumes nothing.
+use mathlib.Core.Path.{_≡_, refl}
+use mathlib.Core.Bool.{Bool, true, false}
+use mathlib.Core.List.{List, [], _∷_, map}
+use mathlib.Core.Option.{Option, some, none}
+use Prim.Native.Nat.{ℕ, _/_, _%_}
+use lib.Dec.{eqb}
+use lib.IntN.{ℤ, pos, negsuc}
+use Rattle.ints.specs.BigEndian.{natAt}
+use Rattle.ints.specs.Saturating.{clamp32}
+use Rattle.ints.specs.Scale.{floorDiv, scaled}
+use Rattle.ints.specs.Signed.{intAt, signed}
+use Rattle.slots.specs.Slot.{Slot}
+use Rattle.slots.specs.Line.{slot, update}
+use Rattle.slots.specs.Parent.{parent}
+use Rattle.slots.specs.declared.axis.Axis.the-variants.{X, Y}
+use Rattle.slots.specs.declared.axis.Direction.the-variants.{LeftToRight, TopToBottom}
+use Rattle.tables.specs.Anchor.{Spot}
+use Rattle.tables.specs.Spans.{ascends, firstHolding, spanAt, spansFrom}
+use Rattle.answers.specs.Said.{break, concat, applied, declined, refused}
+use Rattle.marks.specs.Attachment.{planned}
+use Rattle.marks.specs.MarkPos.{anchorsFor, baseIndex, componentIndex, markIndex, marksGood}
+use Rattle.marks.specs.Plan.{Plan, stop, endless, hang, planOf, planSaid}
+use Rattle.marks.specs.Search.{accepted, nearest, stopsAt}
+use Rattle.marks.specs.Walk.{crossWalk, walkIn}
+use Rattle.marks.specs.declared.subtable.Kind.the-variants.{Base, Ligature}
+
+-- the bytes of a table, from its numbers of 16 bits
+abbrev words : List ℕ → List ℕ
+words [] = []
+words (n ∷ ns) = n / 256 ∷ n % 256 ∷ words ns
+
+-- a slot, by glyph, ligature id, component, flags, type, chain and y offset
+abbrev glyphAt : ℕ → ℕ → ℕ → ℕ → ℕ → ℤ → ℤ → Slot
+glyphAt g i c f t n y =
+    record {
+      glyph = g;
+      ligatureId = i;
+      component = c;
+      flags = f;
+      attachType = t;
+      chain = n;
+      xAdvance = pos 600;
+      yAdvance = pos 0;
+      xOffset = pos 0;
+      yOffset = y;
+    }
+
+-- a slot of a ligature with this id, or a mark of one, at this component
+abbrev part : ℕ → ℕ → Slot
+part i c = glyphAt 9 i c 1 0 (pos 0) (pos 0)
+
+-- a slot with this type, chain and y offset
+abbrev hanging : ℕ → ℤ → ℤ → Slot
+hanging t n y = glyphAt 5 0 0 1 t n y
+
+-- the loop of document 01: slots 0 and 1 are cursive and point at each other; the mark, which the search doesn't see, is slot 2
+abbrev loop : List Slot
+loop = hanging 2 (pos 1) (pos 5) ∷ hanging 2 (negsuc 0) (pos 7) ∷ glyphAt 9 0 0 2 0 (pos 0) (pos 0) ∷ []
+
+-- slot 2 hangs on 1 and 1 on 0, which has another type; the first sum goes past 32 bits, the second comes back from there
+abbrev hops : List Slot
+hops = hanging 1 (pos 1) (negsuc 4) ∷ hanging 2 (negsuc 0) (pos 1) ∷ hanging 3 (negsuc 0) (pos 2147483647) ∷ []
+
+-- two glyphs of a multiple substitution, a mark, and the third glyph; all seen
+abbrev broken : List Slot
+broken = glyphAt 5 4 0 5 0 (pos 0) (pos 0) ∷ glyphAt 6 4 1 5 0 (pos 0) (pos 0) ∷ glyphAt 9 4 1 7 0 (pos 0) (pos 0) ∷ glyphAt 7 4 2 5 0 (pos 0) (pos 0) ∷ []
+
+-- a base that is seen, one that is not, and a mark, whose offsets are replaced
+abbrev plain : List Slot
+plain = glyphAt 5 0 0 1 0 (pos 0) (pos 30) ∷ glyphAt 5 0 0 0 0 (pos 0) (pos 0) ∷ glyphAt 9 0 0 2 0 (pos 0) (pos 99) ∷ []
+
+-- a subtable: glyph 9 is a mark with the anchor (10, 20); glyph 5 is a base, its anchor (100, 200) at this offset of the base array; one class
+abbrev subtable : ℕ → List ℕ
+subtable off =
+    words (1 ∷ 12 ∷ 18 ∷ 1 ∷ 24 ∷ 36 ∷ 1 ∷ 1 ∷ 9 ∷ 1 ∷ 1 ∷ 5 ∷ 1 ∷ 0 ∷ 6 ∷ 1 ∷ 10 ∷ 20 ∷ 1 ∷ off ∷ 1 ∷ 100 ∷ 200 ∷ [])
+
+abbrev spot : ℤ → ℤ → Spot
+spot x y = record { x = x; y = y }
+
+pub record Worked : Type 0 where
+  -- P9: three components, equal ids: mark component 2 uses index 1; 5 and 0 use 2
+  pub P9 : map (λ (c : ℕ). componentIndex 3 (part 4 c) (part 4 0)) (2 ∷ 5 ∷ 0 ∷ []) ≡ (1 ∷ 2 ∷ 2 ∷ [])
+  -- other ids, and ids that are 0: the last
+  pub other-ids : map (λ (i : ℕ). componentIndex 3 (part 4 2) (part i 0)) (4 ∷ 5 ∷ 0 ∷ []) ≡ (1 ∷ 2 ∷ 2 ∷ [])
+  pub no-ids : componentIndex 3 (part 0 2) (part 0 0) ≡ 2
+  -- the loop: the walk of slot 1 never ends, on either axis; that of the mark ends at once
+  pub endless-walk : (crossWalk Y loop 1 ≡ none) × (crossWalk X loop 1 ≡ none) × (crossWalk Y loop 2 ≡ some (pos 0))
+  -- two hops, by the cursive bit of types 2 and 3: it saturates step by step, from the slot outward
+  pub two-hops : map (crossWalk Y hops) (0 ∷ 1 ∷ 2 ∷ []) ≡ (some (negsuc 4) ∷ some (negsuc 3) ∷ some (pos 2147483642) ∷ [])
+  -- a parent outside the line ends it
+  pub outside : (crossWalk Y (hanging 2 (negsuc 0) (pos 5) ∷ []) 0 ≡ some (pos 5)) × (crossWalk Y (hanging 2 (pos 1) (pos 5) ∷ []) 0 ≡ some (pos 5))
+  -- the nearest number that passes, and none
+  pub nearest-is : map (nearest (λ (k : ℕ). eqb (k % 3) 0)) (6 ∷ 4 ∷ 3 ∷ 0 ∷ []) ≡ (some 3 ∷ some 3 ∷ some 0 ∷ none ∷ [])
+  -- of a multiple substitution the first glyph is accepted, and the one after the mark that breaks it; as a ligature only the first
+  pub base-accepted : map (accepted Base broken) (0 ∷ 1 ∷ 3 ∷ []) ≡ (true ∷ false ∷ true ∷ [])
+  pub ligature-accepted : map (accepted Ligature broken) (0 ∷ 1 ∷ 3 ∷ []) ≡ (true ∷ false ∷ false ∷ [])
+  -- the search passes what is not seen; what is seen and not accepted it takes if it is covered
+  pub stops : (map (stopsAt Base (subtable 4) plain) (0 ∷ 1 ∷ []) ≡ (true ∷ false ∷ [])) × (stopsAt Base (subtable 4) broken 1 ≡ false)
+  pub stops-covered : stopsAt Ligature (subtable 4) (part 0 0 ∷ glyphAt 5 4 1 5 0 (pos 0) (pos 0) ∷ []) 1 ≡ true
+  -- the subtable is good; the mark attaches to slot 0, the base that is seen
+  pub attaches : (marksGood (subtable 4) ≡ true) × (planOf Base Y (subtable 4) plain 2 ≡ hang 0 (spot (pos 100) (pos 200)) (spot (pos 10) (pos 20)) (pos 30))
+  -- both anchors found, the walk never ends: refusal 7; without the base's anchor a decline, without hazard
+  pub refused-7 : (planOf Base Y (subtable 4) loop 2 ≡ endless) × (planSaid 2 (planOf Base Y (subtable 4) loop 2) ≡ refused 7)
+  pub no-anchor : planSaid 2 (planOf Base Y (subtable 0) loop 2) ≡ declined []
+  -- nothing is seen before the mark, and what was found is not covered: concat
+  pub none-found : planOf Base Y (subtable 4) (glyphAt 5 0 0 0 0 (pos 0) (pos 0) ∷ glyphAt 9 0 0 2 0 (pos 0) (pos 0) ∷ []) 1 ≡ stop (concat 0 2 ∷ [])
+  pub uncovered : planOf Base Y (subtable 4) (part 0 0 ∷ part 0 0 ∷ part 0 0 ∷ []) 2 ≡ stop (concat 1 3 ∷ [])
+  -- attached, left to right: base anchor less mark anchor, scaled once, and across the line the base's walk
+  pub across-y : slot (planned 500 1000 LeftToRight 2 (hang 0 (spot (pos 100) (pos 205)) (spot (pos 10) (pos 20)) (pos 30)) plain) 2
+      ≡ record { glyph = 9; ligatureId = 0; component = 0; flags = 2; attachType = 1; chain = negsuc 1; xAdvance = pos 600; yAdvance = pos 0; xOffset = pos 45; yOffset = pos 123 }
+  -- top to bottom the walk goes to x
+  pub across-x : slot (planned 500 1000 TopToBottom 2 (hang 0 (spot (pos 100) (pos 205)) (spot (pos 10) (pos 20)) (pos 30)) plain) 2
+      ≡ record { glyph = 9; ligatureId = 0; component = 0; flags = 2; attachType = 1; chain = negsuc 1; xAdvance = pos 600; yAdvance = pos 0; xOffset = pos 75; yOffset = pos 93 }
+  pub passes : planSaid 2 (planOf Base Y (subtable 4) plain 2) ≡ applied 3 (break 0 3 ∷ []) true
+
+pub worked : Worked
+unfolding ascends firstHolding spanAt spansFrom natAt intAt signed clamp32 floorDiv scaled update parent
+    anchorsFor baseIndex markIndex marksGood planOf nearest stopsAt crossWalk walkIn
+worked = record {
+  P9 = refl;
+  other-ids = refl;
+  no-ids = refl;
+  endless-walk = (refl, refl, refl);
+  two-hops = refl;
+  outside = (refl, refl);
+  nearest-is = refl;
+  base-accepted = refl;
+  ligature-accepted = refl;
+  stops = (refl, refl);
+  stops-covered = refl;
+  attaches = (refl, refl);
+  refused-7 = (refl, refl);
+  no-anchor = refl;
+  none-found = refl;
+  uncovered = refl;
+  across-y = refl;
+  across-x = refl;
+  passes = refl;
+}

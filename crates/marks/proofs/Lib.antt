@@ -1,0 +1,6 @@
+pub mod MarkPosLaws
+pub mod SearchLaws
+pub mod WalkLaws
+pub mod PlanLaws
+pub mod AttachmentLaws
+pub mod Examples

@@ -1,0 +1,175 @@
+-- Laws of mark subtables: what the check says of a subtable's bytes, and what is found in one, by what code read. Assumes nothing.
+use mathlib.Core.Path.{_≡_, refl, sym, ap, _∙_}
+use mathlib.Core.Bool.{Bool, true, false, _&&_, and-false}
+use mathlib.Core.List.{List, []}
+use mathlib.Core.Option.{Option, some, none}
+use Prim.Native.Nat.{ℕ, zero, suc, _+_, _*_, _-_, _≤_, _<_, min}
+use native.Mathlib.Omega.{arith}
+use lib.Dec.{eqb, leb, ltb}
+use lib.ListN.{length, drop}
+use lib.Seq.{getD-drop}
+use borrow.Author.Tests.{eq-eqb, eqb-true, le-leb, le-ltb, leb-true, lt-leb, lt-ltb, ne-eqb}
+use Rattle.ints.specs.BigEndian.{Bytes, natAt}
+use Rattle.ints.specs.Choice.{if_then_else_}
+use Rattle.slots.specs.Slot.{Slot}
+use Rattle.tables.specs.AnchorRows.{rowsOf}
+use Rattle.tables.specs.Coverage.{coverageGoodAt}
+use Rattle.tables.specs.MarkArray.{MarkSpot, markOf}
+use Rattle.tables.specs.Part.{childOf, offsetThere, tableAt}
+use Rattle.tables.specs.declared.anchor_rows.Rows.{Rows}
+use Rattle.tables.specs.declared.anchor_rows.Rows.the-variants.{Of, Absent}
+use Rattle.tables.proofs.SpansLaws.{and-left, and-right}
+use Rattle.marks.specs.MarkPos.{missing, empty, anchorsFor, classCount, componentIndex, markAt, marksGood, noComponent, rowFor, rowless, rowTable, withMark, withRows}
+use Rattle.marks.specs.declared.subtable.Kind.{Kind}
+use Rattle.marks.specs.declared.subtable.Kind.the-variants.{Base, Ligature}
+
+-- what the check of a subtable says
+pub record Good (t : List ℕ) : Type 0 where
+  pub short : length t ≤ 65536
+  pub header : 12 ≤ length t
+  pub format : natAt 2 t 0 ≡ 1
+  pub marks-good : coverageGoodAt t (natAt 2 t 2) ≡ true
+  pub bases-good : coverageGoodAt t (natAt 2 t 4) ≡ true
+
+pub good : (t : List ℕ) → marksGood t ≡ true → Good t
+unfolding marksGood
+good t e =
+    let a = and-right (leb (length t) 65536) _ e in
+    let b = and-right (leb 12 (length t)) _ a in
+    let d = and-right (eqb (natAt 2 t 0) 1) _ b in
+    record {
+      short = leb-true (length t) 65536 (and-left _ _ e);
+      header = leb-true 12 (length t) (and-left _ _ a);
+      format = eqb-true (natAt 2 t 0) 1 (and-left _ _ b);
+      marks-good = and-left _ _ d;
+      bases-good = and-right (coverageGoodAt t (natAt 2 t 2)) _ d;
+    }
+
+-- ---- the check, by its tests in order
+module _ (t : List ℕ) where
+  pub good-long : 65536 < length t → false ≡ marksGood t
+  unfolding marksGood
+  good-long h = rw (lt-leb (length t) 65536 h)
+
+  module _ (short : length t ≤ 65536) where
+    pub good-cut : length t < 12 → false ≡ marksGood t
+    unfolding marksGood
+    good-cut h = rw (le-leb (length t) 65536 short, lt-leb 12 (length t) h)
+
+    module _ (header : 12 ≤ length t) (f : ℕ) (read : f ≡ natAt 2 t 0) where
+      pub good-unknown : (f ≡ 1 → ⊥) → false ≡ marksGood t
+      unfolding marksGood
+      good-unknown h = rw (le-leb (length t) 65536 short, le-leb 12 (length t) header, ← read, ne-eqb f 1 h)
+
+      module _ (one : f ≡ 1) (m : ℕ) (read-m : m ≡ natAt 2 t 2) (g : Bool) (is : g ≡ coverageGoodAt t m) where
+        both-good : marksGood t ≡ g && coverageGoodAt t (natAt 2 t 4)
+        unfolding marksGood
+        both-good =
+            rw (le-leb (length t) 65536 short, le-leb 12 (length t) header, ← read, eq-eqb f 1 one)
+            (ap (λ (x : Bool). x && coverageGoodAt t (natAt 2 t 4)) (sym (is ∙ ap (coverageGoodAt t) read-m)))
+
+        pub good-marks-not : g ≡ false → false ≡ marksGood t
+        good-marks-not h = sym (both-good ∙ ap (λ (x : Bool). x && coverageGoodAt t (natAt 2 t 4)) h)
+
+        pub good-bases : g ≡ true → (b : ℕ) → b ≡ natAt 2 t 4 → (r : Bool) → r ≡ coverageGoodAt t b → r ≡ marksGood t
+        good-bases h b read-b r e =
+            e ∙ ap (coverageGoodAt t) read-b ∙ sym (both-good ∙ ap (λ (x : Bool). x && coverageGoodAt t (natAt 2 t 4)) h)
+
+-- ---- the component for a mark, by the tests in order: i and j are the ligature's id and the mark's, c is the mark's component
+module _ (n : ℕ) (mark lig : Slot) (some : 0 < n) (i : ℕ) (is-i : i ≡ lig .ligatureId) where
+  last-in : n - 1 < n
+  last-in = omega arith
+
+  pub component-none : i ≡ 0 → (n - 1 ≡ componentIndex n mark lig) × (n - 1 < n)
+  component-none h = (rw (← is-i, eq-eqb i 0 h), last-in)
+
+  module _ (there : i ≡ 0 → ⊥) (j : ℕ) (is-j : j ≡ mark .ligatureId) where
+    pub component-other : (i ≡ j → ⊥) → (n - 1 ≡ componentIndex n mark lig) × (n - 1 < n)
+    component-other h = (rw (← is-i, ← is-j, ne-eqb i 0 there, ne-eqb i j h), last-in)
+
+    module _ (same : i ≡ j) (c : ℕ) (is-c : c ≡ mark .component) where
+      pub component-zero : c ≡ 0 → (n - 1 ≡ componentIndex n mark lig) × (n - 1 < n)
+      component-zero h = (rw (← is-i, ← is-j, ← is-c, ne-eqb i 0 there, eq-eqb i j same, h), last-in)
+
+      own : (c ≡ 0 → ⊥) → componentIndex n mark lig ≡ min c n - 1
+      own h = rw (← is-i, ← is-j, ← is-c, ne-eqb i 0 there, eq-eqb i j same, lt-ltb 0 c (omega arith))
+
+      pub component-past : (c ≡ 0 → ⊥) → n ≤ c → (n - 1 ≡ componentIndex n mark lig) × (n - 1 < n)
+      component-past h l = (rw (own h) (omega arith), last-in)
+
+      pub component-own : (c ≡ 0 → ⊥) → c < n → (c - 1 ≡ componentIndex n mark lig) × (c - 1 < n)
+      component-own h l = (rw (own h) (omega arith), omega arith)
+
+-- ---- the table with the anchor rows: arr is the array at offset off, as code found it
+module _ (kind : Kind) (t : List ℕ) (k : ℕ) (arr : List ℕ) (off : ℕ) (read : off ≡ natAt 2 t 10) (is : arr ≡ tableAt t off) where
+  array : arr ≡ tableAt t (natAt 2 t 10)
+  array = is ∙ ap (tableAt t) read
+
+  pub rows-base : kind ≡ Base → arr ≡ rowTable kind t k
+  rows-base e = rw e array
+
+  of-ligature : kind ≡ Ligature → rowTable kind t k ≡ childOf arr 2 (natAt 2 arr 0) k
+  of-ligature e = rw e (ap (λ (l : List ℕ). childOf l 2 (natAt 2 l 0) k) (sym array))
+
+  pub rows-cut : kind ≡ Ligature → length arr < 2 → [] ≡ rowTable kind t k
+  rows-cut e h = sym (of-ligature e ∙ rw (lt-leb (2 + 2 * k + 2) (length arr) (omega arith), and-false))
+
+  pub rows-ligature : kind ≡ Ligature → (n : ℕ) → n ≡ natAt 2 arr 0 → (r : List ℕ) → r ≡ childOf arr 2 n k → r ≡ rowTable kind t k
+  rows-ligature e n is-n r is-r = is-r ∙ ap (λ (m : ℕ). childOf arr 2 m k) is-n ∙ sym (of-ligature e)
+
+-- parts of bytes are bytes
+table-bytes : (t : List ℕ) (off : ℕ) → Bytes t → Bytes (tableAt t off)
+table-bytes t off h = go (eqb off 0)
+  where
+    go : (z : Bool) → Bytes (if z then [] else drop off t)
+    go true k = omega arith
+    go false k = rw (getD-drop off t k 0) (h (off + k))
+
+child-bytes : (t : List ℕ) (at count k : ℕ) → Bytes t → Bytes (childOf t at count k)
+child-bytes t at count k h = go (offsetThere t at count k)
+  where
+    go : (z : Bool) → Bytes (if z then tableAt t (natAt 2 t (at + 2 * k)) else [])
+    go true = table-bytes t (natAt 2 t (at + 2 * k)) h
+    go false = λ j. omega arith
+
+pub rows-bytes : (kind : Kind) (t : List ℕ) (k : ℕ) → Bytes t → Bytes (rowTable kind t k)
+rows-bytes Base t k h = table-bytes t (natAt 2 t 10) h
+rows-bytes Ligature t k h =
+    let a : List ℕ = tableAt t (natAt 2 t 10) in
+    child-bytes a 2 (natAt 2 a 0) k (table-bytes t (natAt 2 t 10) h)
+
+-- ---- the anchors, by the number of rows that code found
+module _ (kind : Kind) (t : List ℕ) (k m : ℕ) (mark base : Slot) (rows : List ℕ) (is : rows ≡ rowTable kind t k) (columns : ℕ) (read : columns ≡ natAt 2 t 6)
+    (found : Rows) (counted : found ≡ rowsOf rows columns) where
+  by-rows : anchorsFor kind t k m mark base ≡ withRows kind t k m mark base found
+  unfolding anchorsFor
+  by-rows = ap (withRows kind t k m mark base) (sym (counted ∙ ap (λ (l : List ℕ). rowsOf l columns) is ∙ ap (rowsOf (rowTable kind t k)) read))
+
+  pub anchors-cut : found ≡ Absent → missing ≡ anchorsFor kind t k m mark base
+  anchors-cut e = sym (by-rows ∙ ap (withRows kind t k m mark base) e)
+
+  pub anchors-rowless : (n : ℕ) → found ≡ Of n → n ≡ 0 → rowless kind ≡ anchorsFor kind t k m mark base
+  anchors-rowless n e z = sym (by-rows ∙ ap (withRows kind t k m mark base) (e ∙ ap Of z) ∙ go kind (markAt t m))
+    where
+      go : (x : Kind) (o : Option MarkSpot)
+          → (if noComponent x 0 then empty else withMark (rowTable x t k) 0 (classCount t) (rowFor x k 0 mark base) o) ≡ rowless x
+      go Base (some a) = rw (le-ltb k 0 (omega arith))
+      go Base none = refl
+      go Ligature o = refl
+
+  pub anchors-with : (n : ℕ) → found ≡ Of n → (n ≡ 0 → ⊥) → (row : ℕ) → row ≡ rowFor kind k n mark base
+      → (off : ℕ) → off ≡ natAt 2 t 8 → (marks : List ℕ) → marks ≡ tableAt t off → (o : Option MarkSpot) → o ≡ markOf marks m
+      → withMark rows n columns row o ≡ anchorsFor kind t k m mark base
+  anchors-with n e z row is-row off read-off marks is-marks o is-o =
+      let there : o ≡ markAt t m = is-o ∙ ap (λ (l : List ℕ). markOf l m) (is-marks ∙ ap (tableAt t) read-off) in
+      ap (λ (l : List ℕ). withMark l n columns row o) is
+      ∙ ap (λ (c : ℕ). withMark (rowTable kind t k) n c row o) read
+      ∙ ap (λ (r : ℕ). withMark (rowTable kind t k) n (classCount t) r o) is-row
+      ∙ ap (withMark (rowTable kind t k) n (classCount t) (rowFor kind k n mark base)) there
+      ∙ sym (by-rows ∙ ap (withRows kind t k m mark base) e ∙ go kind)
+    where
+      go : (x : Kind)
+          → (if noComponent x n then empty else withMark (rowTable x t k) n (classCount t) (rowFor x k n mark base) (markAt t m))
+          ≡ withMark (rowTable x t k) n (classCount t) (rowFor x k n mark base) (markAt t m)
+      go Base = refl
+      go Ligature = rw (ne-eqb n 0 z)

@@ -1,0 +1,98 @@
+-- Laws of the search: one equation for each way through its tests, by what code read, and one turn. Assumes nothing.
+use mathlib.Core.Path.{_≡_, refl, sym, ap, _∙_}
+use mathlib.Core.Bool.{Bool, true, false, not, _&&_, _||_}
+use mathlib.Core.List.{List}
+use mathlib.Core.Option.{some, none}
+use Prim.Native.Nat.{ℕ, zero, suc, _+_, _-_, _≤_, _<_}
+use native.Mathlib.Omega.{arith}
+use lib.Dec.{eqb}
+use borrow.Author.Tests.{eq-eqb, ne-eqb}
+use Rattle.slots.specs.Slot.{Slot}
+use Rattle.slots.specs.Line.{slot}
+use Rattle.slots.specs.Fields.{flagOf}
+use Rattle.slots.specs.declared.fields.Flag.the-variants.{Seen, Mark, Multiplied}
+use Rattle.marks.specs.MarkPos.{baseIndex}
+use Rattle.marks.specs.Search.{accepted, goesOn, isCovered, isFirst, nearest, stopsAt}
+use Rattle.marks.specs.declared.subtable.Kind.{Kind}
+use Rattle.marks.specs.declared.subtable.Kind.the-variants.{Base, Ligature}
+
+-- ---- is a glyph the first of a multiple substitution?
+module _ (s : Slot) (u : Bool) (is-u : u ≡ flagOf Multiplied s) where
+  pub first-multiplied : u ≡ true → (n : ℕ) → n ≡ s .component → eqb n 0 ≡ isFirst s
+  first-multiplied h n e = rw (← is-u, h, ← e)
+
+  pub first-single : u ≡ false → true ≡ isFirst s
+  first-single h = rw (← is-u, h)
+
+-- ---- does slot s go on what slot p is part of?
+module _ (p s : Slot) (m : Bool) (is-m : m ≡ flagOf Mark p) where
+  pub goes-mark : m ≡ true → false ≡ goesOn p s
+  goes-mark h = rw (← is-m, h)
+
+  module _ (no-mark : m ≡ false) (u : Bool) (is-u : u ≡ flagOf Multiplied p) where
+    pub goes-single : u ≡ false → false ≡ goesOn p s
+    goes-single h = rw (← is-m, no-mark, ← is-u, h)
+
+    module _ (multiplied : u ≡ true) (i j : ℕ) (is-i : i ≡ s .ligatureId) (is-j : j ≡ p .ligatureId) where
+      pub goes-other : (i ≡ j → ⊥) → false ≡ goesOn p s
+      goes-other h = rw (← is-m, no-mark, ← is-u, multiplied, ← is-i, ← is-j, ne-eqb i j h)
+
+      pub goes-next : i ≡ j → (k l : ℕ) → k ≡ s .component → l ≡ p .component → eqb k (l + 1) ≡ goesOn p s
+      goes-next h k l is-k is-l = rw (← is-m, no-mark, ← is-u, multiplied, ← is-i, ← is-j, eq-eqb i j h, ← is-k, ← is-l)
+
+-- ---- may a mark attach to slot i?
+module _ (kind : Kind) (ss : List Slot) (i : ℕ) (f : Bool) (is-f : f ≡ isFirst (slot ss i)) where
+  pub accepted-first : f ≡ true → true ≡ accepted kind ss i
+  accepted-first h = go kind
+    where
+      go : (k : Kind) → true ≡ accepted k ss i
+      go Base = rw (← is-f, h)
+      go Ligature = rw (← is-f, h)
+
+  module _ (later : f ≡ false) where
+    pub accepted-ligature : kind ≡ Ligature → false ≡ accepted kind ss i
+    accepted-ligature e = rw (e, ← is-f, later)
+
+    pub accepted-start : kind ≡ Base → i ≡ 0 → true ≡ accepted kind ss i
+    accepted-start e h = rw (e, ← is-f, later, eq-eqb i 0 h)
+
+    pub accepted-base : kind ≡ Base → (i ≡ 0 → ⊥) → (g : Bool) → g ≡ goesOn (slot ss (i - 1)) (slot ss i) → not g ≡ accepted kind ss i
+    accepted-base e h g is-g = rw (e, ← is-f, later, ne-eqb i 0 h, ← is-g)
+
+-- ---- does the search stop at slot i?
+module _ (kind : Kind) (t : List ℕ) (ss : List Slot) (i : ℕ) (s : Bool) (is-s : s ≡ flagOf Seen (slot ss i)) where
+  pub stops-unseen : s ≡ false → false ≡ stopsAt kind t ss i
+  unfolding stopsAt
+  stops-unseen h = rw (← is-s, h)
+
+  module _ (seen : s ≡ true) (a : Bool) (is-a : a ≡ accepted kind ss i) where
+    pub stops-accepted : a ≡ true → true ≡ stopsAt kind t ss i
+    unfolding stopsAt
+    stops-accepted h = rw (← is-s, seen, ← is-a, h)
+
+    pub stops-covered : a ≡ false → (g : ℕ) → g ≡ slot ss i .glyph → (b : Bool) → b ≡ isCovered (baseIndex t g) → b ≡ stopsAt kind t ss i
+    unfolding stopsAt
+    stops-covered h g is-g b is-b = rw (← is-s, seen, ← is-a, h, ← is-g) is-b
+
+-- ---- the nearest number below j that passes: one turn of a search downward
+module _ (p : ℕ → Bool) where
+  pub nearest-none : (j : ℕ) → j ≤ 0 → nearest p j ≡ none
+  unfolding nearest
+  nearest-none zero h = refl
+  nearest-none (suc n) h = absurd (omega arith)
+
+  pub nearest-here : (j : ℕ) → 0 < j → p (j - 1) ≡ true → nearest p j ≡ some (j - 1)
+  unfolding nearest
+  nearest-here zero h t = absurd (omega arith)
+  nearest-here (suc n) h t =
+      let e : suc n - 1 ≡ n = omega arith in
+      let w : p n ≡ true = rw e at t in
+      rw (w, e)
+
+  pub nearest-next : (j : ℕ) → 0 < j → p (j - 1) ≡ false → nearest p j ≡ nearest p (j - 1)
+  unfolding nearest
+  nearest-next zero h f = absurd (omega arith)
+  nearest-next (suc n) h f =
+      let e : suc n - 1 ≡ n = omega arith in
+      let w : p n ≡ false = rw e at f in
+      rw (w, e)

@@ -1,0 +1,148 @@
+-- Laws of the walk: one equation for each way that a test of it can end, and that it is refused exactly where it never ends. Assumes nothing.
+use mathlib.Core.Path.{_≡_, refl, sym, ap, _∙_}
+use mathlib.Core.Bool.{Bool, true, false}
+use mathlib.Core.List.{List}
+use mathlib.Core.Option.{Option, some, none}
+use Prim.Native.Nat.{ℕ, zero, suc, _-_, _/_, _%_, _≤_, _<_}
+use native.Mathlib.Omega.{arith}
+use lib.Dec.{ltb}
+use lib.IntN.{ℤ, pos, negsuc, _+ℤ_}
+use lib.ListN.{length}
+use borrow.Author.Tests.{eq-eqb, ltb-true, ne-eqb}
+use Rattle.ints.specs.Choice.{if_then_else_}
+use Rattle.ints.specs.Saturating.{plus}
+use Rattle.counts.specs.Steps.{steps}
+use Rattle.counts.proofs.StepsLaws.{never-done}
+use Rattle.slots.specs.Slot.{Slot}
+use Rattle.slots.specs.Line.{slot}
+use Rattle.slots.specs.Fields.{offset}
+use Rattle.slots.specs.Parent.{byParent, parent, parentBy, placed}
+use Rattle.slots.specs.declared.axis.Axis.{Axis}
+use Rattle.slots.specs.declared.parent.Parent.{Parent}
+use Rattle.slots.specs.declared.parent.Parent.the-variants.{None, Outside, At}
+use Rattle.marks.specs.Walk.{climb, crossWalk, cursiveBit, endsAt, NeverEnds, next, up, walkIn}
+
+-- ---- where the walk goes on: t is the type of slot i
+module _ (ss : List Slot) (i t : ℕ) (is : t ≡ slot ss i .attachType) where
+  pub climb-cursive : t / 2 % 2 ≡ 1 → parent ss i ≡ climb ss i
+  climb-cursive h = rw (← is, eq-eqb (t / 2 % 2) 1 h)
+
+  pub climb-other : (t / 2 % 2 ≡ 1 → ⊥) → None ≡ climb ss i
+  climb-other h = rw (← is, ne-eqb (t / 2 % 2) 1 h)
+
+-- it stays in the line
+placed-in : (n j : ℕ) (z : ℤ) → placed n z ≡ At j → j < n
+placed-in n j (negsuc m) e = let z : _≡_ {A = ℕ} 0 1 = cc in absurd (omega arith)
+placed-in n j (pos m) e = go (ltb m n) refl e
+  where
+    go : (b : Bool) → ltb m n ≡ b → (if b then At m else Outside) ≡ At j → j < n
+    go true h e = let same : m ≡ j = cc in omega (arith, ltb-true m n h)
+    go false h e = let z : _≡_ {A = ℕ} 0 1 = cc in absurd (omega arith)
+
+parentBy-in : (n i j : ℕ) (z : ℤ) → parentBy n i z ≡ At j → j < n
+parentBy-in n i j (pos zero) e = let z : _≡_ {A = ℕ} 0 1 = cc in absurd (omega arith)
+parentBy-in n i j (pos (suc c)) e = placed-in n j (pos i +ℤ pos (suc c)) e
+parentBy-in n i j (negsuc c) e = placed-in n j (pos i +ℤ negsuc c) e
+
+pub climb-in : (ss : List Slot) (i j : ℕ) → climb ss i ≡ At j → j < length ss
+unfolding parent
+climb-in ss i j e = go (cursiveBit (slot ss i .attachType)) e
+  where
+    go : (b : Bool) → (if b then parentBy (length ss) i (slot ss i .chain) else None) ≡ At j → j < length ss
+    go true h = parentBy-in (length ss) i j (slot ss i .chain) h
+    go false h = let z : _≡_ {A = ℕ} 0 1 = cc in absurd (omega arith)
+
+-- ---- the walk by the tests that are left: all of them; n, after one that climbs to p; and none
+pub walk-start : (a : Axis) (ss : List Slot) (i n : ℕ) (sum : ℤ) → n ≡ length ss → sum ≡ offset a (slot ss i) → crossWalk a ss i ≡ walkIn n a ss i sum
+unfolding crossWalk
+walk-start a ss i n sum is-n is-sum = rw (is-n, is-sum)
+
+module _ (a : Axis) (ss : List Slot) where
+  by-climb : (n i : ℕ) (sum : ℤ) (p : Parent) → climb ss i ≡ p
+      → walkIn (suc n) a ss i sum ≡ byParent p (some sum) (some sum) (λ j. walkIn n a ss j (plus sum (offset a (slot ss j))))
+  unfolding walkIn
+  by-climb n i sum p e = ap (λ (q : Parent). byParent q (some sum) (some sum) (λ j. walkIn n a ss j (plus sum (offset a (slot ss j))))) e
+
+  pub walk-out : (n i : ℕ) (sum : ℤ) → n ≤ 0 → walkIn n a ss i sum ≡ none
+  unfolding walkIn
+  walk-out n i sum h = let e : n ≡ 0 = omega arith in rw e
+
+  module _ (n i : ℕ) (sum : ℤ) (more : 0 < n) where
+    one-less : walkIn n a ss i sum ≡ walkIn (suc (n - 1)) a ss i sum
+    one-less = let e : n ≡ suc (n - 1) = omega arith in ap (λ (m : ℕ). walkIn m a ss i sum) e
+
+    pub walk-none : climb ss i ≡ None → walkIn n a ss i sum ≡ some sum
+    walk-none e = one-less ∙ by-climb (n - 1) i sum None e
+
+    pub walk-outside : climb ss i ≡ Outside → walkIn n a ss i sum ≡ some sum
+    walk-outside e = one-less ∙ by-climb (n - 1) i sum Outside e
+
+    pub walk-on : (j : ℕ) → climb ss i ≡ At j → walkIn n a ss i sum ≡ walkIn (n - 1) a ss j (plus sum (offset a (slot ss j)))
+    walk-on j e = one-less ∙ by-climb (n - 1) i sum (At j) e
+
+-- ---- a walk that has not ended
+-- a step taken first or last
+steps-first : (f : ℕ → ℕ) (i k : ℕ) → steps f (f i) k ≡ steps f i (suc k)
+unfolding steps
+steps-first f i zero = refl
+steps-first f i (suc k) = ap f (steps-first f i k)
+
+module _ (ss : List Slot) where
+  ends-by : (i : ℕ) (p : Parent) → climb ss i ≡ p → endsAt ss i ≡ byParent p true true (λ j. false)
+  unfolding endsAt
+  ends-by i p e = ap (λ (q : Parent). byParent q true true (λ j. false)) e
+
+  next-at : (i j : ℕ) → climb ss i ≡ At j → next ss i ≡ j
+  unfolding next
+  next-at i j e = ap (λ (q : Parent). byParent q i i (λ k. k)) e
+
+  up-at : (i j k : ℕ) → climb ss i ≡ At j → up ss i (suc k) ≡ up ss j k
+  up-at i j k e = sym (steps-first (next ss) i k) ∙ ap (λ (x : ℕ). steps (next ss) x k) (next-at i j e)
+
+  -- where it has not ended, it goes on within the line
+  next-in : (i : ℕ) → endsAt ss i ≡ false → next ss i < length ss
+  next-in i h = go (climb ss i) refl
+    where
+      go : (p : Parent) → climb ss i ≡ p → next ss i < length ss
+      go None e = let w = ends-by i None e in let z : _≡_ {A = ℕ} 0 1 = cc in absurd (omega arith)
+      go Outside e = let w = ends-by i Outside e in let z : _≡_ {A = ℕ} 0 1 = cc in absurd (omega arith)
+      go (At j) e = rw (next-at i j e) (climb-in ss i j e)
+
+  module _ (a : Axis) where
+    -- no answer in n tests: in the first n steps it has not ended
+    going : (n i : ℕ) (sum : ℤ) → walkIn n a ss i sum ≡ none → (k : ℕ) → k < n → endsAt ss (up ss i k) ≡ false
+    unfolding steps
+    going zero i sum h k l = absurd (omega arith)
+    going (suc n) i sum h k l = go (climb ss i) refl (going n) k l
+      where
+        go : (p : Parent) → climb ss i ≡ p → ((j : ℕ) (s : ℤ) → walkIn n a ss j s ≡ none → (k : ℕ) → k < n → endsAt ss (up ss j k) ≡ false)
+            → (k : ℕ) → k < suc n → endsAt ss (up ss i k) ≡ false
+        go None e rest k l = let w = by-climb a ss n i sum None e in let z : _≡_ {A = ℕ} 0 1 = cc in absurd (omega arith)
+        go Outside e rest k l = let w = by-climb a ss n i sum Outside e in let z : _≡_ {A = ℕ} 0 1 = cc in absurd (omega arith)
+        go (At j) e rest zero l = ends-by i (At j) e
+        go (At j) e rest (suc k) l =
+            let w : walkIn n a ss j (plus sum (offset a (slot ss j))) ≡ none = sym (by-climb a ss n i sum (At j) e) ∙ h in
+            ap (endsAt ss) (up-at i j k e) ∙ rest j (plus sum (offset a (slot ss j))) w k (omega arith)
+
+    -- and the other way
+    unanswered : (n i : ℕ) (sum : ℤ) → ((k : ℕ) → k < n → endsAt ss (up ss i k) ≡ false) → walkIn n a ss i sum ≡ none
+    unfolding steps
+    unanswered zero i sum h = walk-out a ss 0 i sum (omega arith)
+    unanswered (suc n) i sum h = go (climb ss i) refl (unanswered n)
+      where
+        go : (p : Parent) → climb ss i ≡ p → ((j : ℕ) (s : ℤ) → ((k : ℕ) → k < n → endsAt ss (up ss j k) ≡ false) → walkIn n a ss j s ≡ none)
+            → walkIn (suc n) a ss i sum ≡ none
+        go None e rest = let w = ends-by i None e in let v = h 0 (omega arith) in let z : _≡_ {A = ℕ} 0 1 = cc in absurd (omega arith)
+        go Outside e rest = let w = ends-by i Outside e in let v = h 0 (omega arith) in let z : _≡_ {A = ℕ} 0 1 = cc in absurd (omega arith)
+        go (At j) e rest =
+            by-climb a ss n i sum (At j) e
+            ∙ rest j (plus sum (offset a (slot ss j))) (λ k l. sym (ap (endsAt ss) (up-at i j k e)) ∙ h (suc k) (omega arith))
+
+    -- The law of the walk: it is refused exactly where, for every number of steps, it has not ended.
+    pub refused-never : (i : ℕ) → i < length ss → crossWalk a ss i ≡ none → NeverEnds ss i
+    unfolding crossWalk
+    refused-never i h e = never-done (next ss) (endsAt ss) (length ss) i h (λ x l w. next-in x w) (going (length ss) i (offset a (slot ss i)) e)
+
+    pub never-refused : (i : ℕ) → NeverEnds ss i → crossWalk a ss i ≡ none
+    unfolding crossWalk
+    never-refused i h = unanswered (length ss) i (offset a (slot ss i)) (λ k l. h k)

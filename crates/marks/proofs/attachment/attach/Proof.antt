@@ -1,0 +1,150 @@
+-- `marks::attachment::attach` meets its contract: each decision comes to what its plan says. Assumes nothing.
+use mathlib.Core.Path.{_≡_, sym, ap, subst, _∙_}
+use native.Mathlib.Omega.{arith}
+use denote.Ref.{now}
+use lib.IntN.{ℤ}
+use Rattle.ints.specs.Signed.{val}
+use Rattle.slots.specs.Axis.{cross}
+use Rattle.slots.specs.Fields.{withChain}
+use Rattle.slots.specs.Line.{slots, update}
+use Rattle.slots.specs.declared.axis.Axis.{Axis}
+use Rattle.tables.specs.Anchor.{spotOf}
+use Rattle.answers.specs.Said.{ranges, said}
+use Rattle.marks.specs.Codes.{meant, Sound}
+use Rattle.marks.specs.Plan.{planOf}
+use Rattle.marks.proofs.AttachmentLaws.{chain-none, effect-endless, effect-far, effect-hung, effect-stop, none-fits}
+use borrow.Author.Needs.{needs}
+use Rattle.marks.proofs.attachment.attach.Statement.{statement}
+use Rattle.marks.proofs.attachment.attach.Tie as tie
+
+-- what was decided is the plan
+as-planned : (c : tie.After-decide)
+    → meant (c .decide .result)
+    ≡ planOf (c .before .before .before .before .before .args .kind) (cross (c .before .before .before .before .before .args .d))
+    (now (c .before .before .before .before .before .args .t)) (slots (now (c .before .before .before .before .before .args .line)))
+    (c .before .before .before .before .before .args .idx)
+as-planned c =
+    let a = c .before .before .before .before .before .args in
+    c .decide .ensures .0 ∙ ap (λ (x : Axis). planOf (a .kind) x (now (a .t)) (slots (now (a .line))) (a .idx)) (c .before .cross-axis .ensures)
+
+cross-axis-requires : tie.Need-cross-axis-requires
+cross-axis-requires c κs = search needs
+
+decide-requires : tie.Need-decide-requires
+decide-requires c κs = search needs
+
+enum-known-decision : tie.Need-enum-known-decision
+enum-known-decision c = search needs
+
+enum-told : tie.Need-enum-told
+enum-told c = search needs
+
+enum-known-decision-2 : tie.Need-enum-known-decision-2
+enum-known-decision-2 c = search needs
+
+sub-if1 : tie.Need-sub-if1
+sub-if1 c =
+    let k = c .before in
+    let s = k .before .before in
+    let sound = subst (Sound (s .before .before .before .before .before .args .idx)) (k .decision2 .given .1) (s .decide .ensures .1) in
+    omega (arith, sound .0)
+
+set-chain-requires : tie.Need-set-chain-requires
+set-chain-requires c κs = (search needs, none-fits)
+
+passed-requires : tie.Need-passed-requires
+passed-requires c κs = search needs
+
+same-length : tie.Need-same-length
+same-length c = search needs
+
+returns : tie.Need-returns
+returns c =
+    let i = c .before .before .before .before .before in
+    let k = i .before .before in
+    let s = k .before .before in
+    let a = s .before .before .before .before .before .args in
+    let ss = slots (now (a .line)) in
+    let g = k .decision2 .given .0 in
+    let chain = c .before .before .before .set-chain in
+    effect-far (a .s) (a .u) (a .d) (a .idx) (planOf (a .kind) (cross (a .d)) (now (a .t)) ss (a .idx)) ss
+    (g .0) (spotOf (g .1 .0)) (spotOf (g .1 .1 .0)) (val (g .1 .1 .1 .0)) (sym (ap meant (k .decision2 .given .1)) ∙ as-planned s)
+    (said (c .passed .result)) (slots (chain .last .0)) (i .if1 .taken) (c .passed .ensures)
+    (chain .ensures ∙ ap (λ (z : ℤ). update (a .idx) (withChain z) ss) chain-none)
+
+hang-requires : tie.Need-hang-requires
+hang-requires c κs =
+    let k = c .before .before .before in
+    let s = k .before .before in
+    let p = s .before .before .before .before .before in
+    let sound = subst (Sound (p .args .idx)) (k .decision2 .given .1) (s .decide .ensures .1) in
+    (search needs, sound .0, c .before .if1 .left, p .pre .1, sound .1 .0, sound .1 .1)
+
+passed-requires-2 : tie.Need-passed-requires-2
+passed-requires-2 c κs =
+    let k = c .before .before .before .before .before .before in
+    let s = k .before .before in
+    let sound = subst (Sound (s .before .before .before .before .before .args .idx)) (k .decision2 .given .1) (s .decide .ensures .1) in
+    (sound .0, search needs)
+
+same-length-2 : tie.Need-same-length-2
+same-length-2 c = search needs
+
+returns-2 : tie.Need-returns-2
+returns-2 c =
+    let k = c .before in
+    let s = k .before .before in
+    let a = s .before .before .before .before .before .args in
+    let ss = slots (now (a .line)) in
+    effect-stop (a .s) (a .u) (a .d) (a .idx) (planOf (a .kind) (cross (a .d)) (now (a .t)) ss (a .idx)) ss
+    (ranges (k .decision .given .0 .0)) (sym (ap meant (k .decision .given .1)) ∙ as-planned s)
+
+same-length-3 : tie.Need-same-length-3
+same-length-3 c = search needs
+
+returns-3 : tie.Need-returns-3
+returns-3 c =
+    let s = c .before .before in
+    let a = s .before .before .before .before .before .args in
+    let ss = slots (now (a .line)) in
+    effect-endless (a .s) (a .u) (a .d) (a .idx) (planOf (a .kind) (cross (a .d)) (now (a .t)) ss (a .idx)) ss
+    (sym (ap meant (c .enum-told .given .1)) ∙ as-planned s)
+
+same-length-4 : tie.Need-same-length-4
+same-length-4 c = search needs
+
+returns-4 : tie.Need-returns-4
+returns-4 c =
+    let i = c .before .before .before .before .before in
+    let k = i .before .before in
+    let s = k .before .before in
+    let a = s .before .before .before .before .before .args in
+    let ss = slots (now (a .line)) in
+    let g = k .decision2 .given .0 in
+    let call = c .before .before .before .hang in
+    effect-hung (a .s) (a .u) (a .d) (a .idx) (planOf (a .kind) (cross (a .d)) (now (a .t)) ss (a .idx)) ss
+    (g .0) (spotOf (g .1 .0)) (spotOf (g .1 .1 .0)) (val (g .1 .1 .1 .0)) (sym (ap meant (k .decision2 .given .1)) ∙ as-planned s)
+    (said (c .passed2 .result)) (slots (call .last .0)) (i .if1 .left) (c .passed2 .ensures) (call .ensures)
+
+pub attach-spec : {M : Type 1} → statement M
+attach-spec =
+    tie.close
+    (tie.spec
+    cross-axis-requires
+    decide-requires
+    enum-known-decision
+    enum-told
+    enum-known-decision-2
+    sub-if1
+    set-chain-requires
+    passed-requires
+    same-length
+    returns
+    hang-requires
+    passed-requires-2
+    same-length-2
+    returns-2
+    same-length-3
+    returns-3
+    same-length-4
+    returns-4)

@@ -1,0 +1,59 @@
+-- `marks::decision::with_found` meets its contract: what was found is covered or not. Assumes nothing.
+use mathlib.Core.Path.{sym, ap, _∙_}
+use denote.Ref.{now}
+use Rattle.slots.specs.Line.{slots}
+use Rattle.marks.specs.Plan.{withAnchors, withFound}
+use Rattle.marks.proofs.PlanLaws.{sound-all}
+use borrow.Author.Needs.{needs}
+use Rattle.marks.proofs.decision.with_found.Statement.{statement}
+use Rattle.marks.proofs.decision.with_found.Tie as tie
+
+enum-known-covered : tie.Need-enum-known-covered
+enum-known-covered c = search needs
+
+find-anchors-requires : tie.Need-find-anchors-requires
+find-anchors-requires c κs = search needs
+
+with-anchors-requires : tie.Need-with-anchors-requires
+with-anchors-requires c κs = search needs
+
+enum-told : tie.Need-enum-told
+enum-told c = search needs
+
+add-stop-from : tie.Need-add-stop-from
+add-stop-from c = search needs
+
+stop-from-requires : tie.Need-stop-from-requires
+stop-from-requires c κs = search needs
+
+returns : tie.Need-returns
+returns c =
+    let k = c .before .before .before in
+    let a = k .before .before .before .before .args in
+    let ss = slots (now (a .line)) in (
+      c .with-anchors .ensures .0
+          ∙ ap (withAnchors (a .a) ss (a .idx) (a .b)) (c .before .find-anchors .ensures .0)
+          ∙ sym (ap (withFound (a .kind) (a .a) (now (a .t)) ss (a .idx) (a .m) (a .b)) (k .covered .given .1)),
+      c .with-anchors .ensures .1,
+    )
+
+returns-2 : tie.Need-returns-2
+returns-2 c =
+    let a = c .before .before .before .before .before .args in (
+      c .stop-from .ensures .0
+          ∙ sym (ap (withFound (a .kind) (a .a) (now (a .t)) (slots (now (a .line))) (a .idx) (a .m) (a .b)) (c .before .enum-told .given .1)),
+      sound-all (c .stop-from .result) (a .idx) (c .stop-from .ensures .1),
+    )
+
+pub with-found-spec : {M : Type 1} → statement M
+with-found-spec =
+    tie.close
+    (tie.spec
+    enum-known-covered
+    find-anchors-requires
+    with-anchors-requires
+    enum-told
+    add-stop-from
+    stop-from-requires
+    returns
+    returns-2)

@@ -1,0 +1,27 @@
+-- `marks::decision::with_walk` meets its contract: the walk ends or not. Assumes nothing.
+use mathlib.Core.Path.{sym, ap}
+use Rattle.tables.specs.Anchor.{spotOf}
+use Rattle.marks.specs.Codes.{walkOf}
+use Rattle.marks.specs.Plan.{withWalk}
+use Rattle.marks.specs.declared.walk.Walk.{Walk}
+use borrow.Author.Needs.{needs}
+use Rattle.marks.proofs.decision.with_walk.Statement.{statement}
+use Rattle.marks.proofs.decision.with_walk.Tie as tie
+
+enum-known-walk : tie.Need-enum-known-walk
+enum-known-walk c = search needs
+
+enum-told : tie.Need-enum-told
+enum-told c = search needs
+
+returns : tie.Need-returns
+returns c =
+    let s = c .before .before .before in
+    let a = s .args in
+    (sym (ap (λ (w : Walk). withWalk (a .b) (spotOf (a .base)) (spotOf (a .mark)) (walkOf w)) (c .before .walk .given .1)), (s .pre .0, (s .pre .1, s .pre .2)))
+
+returns-2 : tie.Need-returns-2
+returns-2 c = search needs
+
+pub with-walk-spec : {M : Type 1} → statement M
+with-walk-spec = tie.close (tie.spec enum-known-walk enum-told returns returns-2)

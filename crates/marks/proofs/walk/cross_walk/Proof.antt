@@ -1,0 +1,123 @@
+-- `marks::walk::cross_walk` meets its contract. The loop's invariant: the whole answer is that of the tests that are left, from where the walk stands.
+-- The measure is how many are left. Assumes nothing.
+use mathlib.Core.Path.{_≡_, sym, ap, _∙_}
+use Prim.Native.Nat.{_-_, _<_}
+use native.Mathlib.Omega.{arith}
+use denote.Ref.{now}
+use Rattle.ints.specs.Saturating.{plus}
+use Rattle.ints.specs.Signed.{val}
+use Rattle.slots.specs.Line.{count, slots}
+use Rattle.slots.proofs.LineLaws.{length-slots}
+use Rattle.marks.specs.Walk.{crossWalk, walkIn}
+use Rattle.marks.proofs.WalkLaws.{climb-in, walk-none, walk-on, walk-out, walk-outside, walk-start}
+use borrow.Author.Needs.{needs}
+use Rattle.marks.proofs.walk.cross_walk.Statement.{statement}
+use Rattle.marks.proofs.walk.cross_walk.Tie as tie
+
+abbrev Inv-loop : tie.InvT-loop
+Inv-loop line a i left₀ at₀ sum₀ left at sum = (at < count line) × (crossWalk a (slots line) i ≡ walkIn left a (slots line) at (val sum))
+
+abbrev μ-loop : tie.MeasureT-loop
+μ-loop line a i left₀ at₀ sum₀ left at sum = left
+
+slot-count-requires : tie.Need-slot-count-requires Inv-loop μ-loop
+slot-count-requires c κs = search needs
+
+get-requires : tie.Need-get-requires Inv-loop μ-loop
+get-requires c κs = search needs
+
+loop-holds : tie.Need-loop-holds Inv-loop μ-loop
+loop-holds c =
+    let a = c .before .before .before .args in
+    let l = now (a .line) in (
+      search needs,
+      walk-start (a .a) (slots l) (a .i) (c .before .slot-count .result) (val (c .get .result)) (c .before .slot-count .ensures ∙ sym (length-slots l)) (c .get .ensures),
+    )
+
+climb-from-requires : tie.Need-climb-from-requires Inv-loop μ-loop
+climb-from-requires c κs = search needs
+
+enum-told : tie.Need-enum-told Inv-loop μ-loop
+enum-told c = search needs
+
+returns : tie.Need-returns Inv-loop μ-loop
+returns c =
+    let f = c .before .before in
+    let s = f .before .before in
+    let a = s .before .before .before .before .args in
+    sym (s .loop .inv .1
+    ∙ walk-none (a .a) (slots (now (a .line))) (s .loop .left) (s .loop .at) (val (s .loop .sum)) (omega arith) (sym (f .climb-from .ensures) ∙ c .enum-told .given .1))
+
+enum-told-2 : tie.Need-enum-told-2 Inv-loop μ-loop
+enum-told-2 c = search needs
+
+returns-2 : tie.Need-returns-2 Inv-loop μ-loop
+returns-2 c =
+    let f = c .before .before in
+    let s = f .before .before in
+    let a = s .before .before .before .before .args in
+    sym (s .loop .inv .1
+    ∙ walk-outside (a .a) (slots (now (a .line))) (s .loop .left) (s .loop .at) (val (s .loop .sum)) (omega arith) (sym (f .climb-from .ensures) ∙ c .enum-told2 .given .1))
+
+enum-known-j : tie.Need-enum-known-j Inv-loop μ-loop
+enum-known-j c = search needs
+
+get-requires-2 : tie.Need-get-requires-2 Inv-loop μ-loop
+get-requires-2 c κs =
+    let j = c .before in
+    let f = j .before .before in
+    let s = f .before .before in
+    let l = now (s .before .before .before .before .args .line) in
+    omega (arith, climb-in (slots l) (s .loop .at) (j .j .given .0 .0) (sym (f .climb-from .ensures) ∙ j .j .given .1), length-slots l)
+
+sat-add-requires : tie.Need-sat-add-requires Inv-loop μ-loop
+sat-add-requires c κs = search needs
+
+sub-left : tie.Need-sub-left Inv-loop μ-loop
+sub-left c = search needs
+
+loop-less : tie.Need-loop-less Inv-loop μ-loop
+loop-less c = search needs
+
+loop-again : tie.Need-loop-again Inv-loop μ-loop
+loop-again c =
+    let j = c .before .before .before in
+    let f = j .before .before in
+    let s = f .before .before in
+    let a = s .before .before .before .before .args in
+    let l = now (a .line) in
+    let to = j .j .given .0 .0 in
+    let e = sym (f .climb-from .ensures) ∙ j .j .given .1 in (
+      omega (arith, climb-in (slots l) (s .loop .at) to e, length-slots l),
+      s .loop .inv .1
+          ∙ walk-on (a .a) (slots l) (s .loop .left) (s .loop .at) (val (s .loop .sum)) (omega arith) to e
+          ∙ ap (walkIn (s .loop .left - 1) (a .a) (slots l) to) (sym (c .sat-add .ensures ∙ ap (plus (val (s .loop .sum))) (c .before .get2 .ensures))),
+    )
+
+returns-3 : tie.Need-returns-3 Inv-loop μ-loop
+returns-3 c =
+    let s = c .before in
+    let a = s .before .before .before .before .args in
+    sym (s .loop .inv .1 ∙ walk-out (a .a) (slots (now (a .line))) (s .loop .left) (s .loop .at) (val (s .loop .sum)) (omega arith))
+
+pub cross-walk-spec : {M : Type 1} → statement M
+cross-walk-spec =
+    tie.close
+    (tie.spec
+    Inv-loop
+    μ-loop
+    slot-count-requires
+    get-requires
+    loop-holds
+    climb-from-requires
+    enum-told
+    returns
+    enum-told-2
+    returns-2
+    enum-known-j
+    get-requires-2
+    sat-add-requires
+    sub-left
+    loop-less
+    loop-again
+    returns-3)

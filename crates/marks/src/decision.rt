@@ -1,0 +1,131 @@
+// What is to be done for a mark.
+use crate::anchors::Found;
+use crate::anchors::find_anchors;
+use crate::search::Place;
+use crate::search::find;
+use crate::subtable::Kind;
+use crate::subtable::base_index;
+use crate::subtable::mark_index;
+use crate::walk::Walk;
+use crate::walk::cross_walk;
+use answers::Hazard;
+use answers::Hazards;
+use ints::big_endian::Signed;
+use ints::big_endian::read_u16;
+use slots::axis::Axis;
+use tables::anchor::Point;
+use tables::coverage::Covered;
+ghost use mathlib.Core.Bool.{true};
+ghost use mathlib.Core.List.{[], _∷_};
+ghost use mathlib.Core.Path.{_≡_};
+ghost use Prim.Native.Nat.{_<_};
+ghost use Rattle.slots.specs.Line.{count, slots};
+ghost use Rattle.tables.specs.Anchor.{Near16, spotOf};
+ghost use Rattle.answers.specs.Said.{concat};
+ghost use Rattle.marks.specs.Codes.{anchorsOf, Before, FoundNear, meant, placeOf, Sound, walkOf};
+ghost use Rattle.marks.specs.MarkPos.{marksGood};
+ghost use Rattle.marks.specs.Plan.{planOf, stop, withAnchors, withFound, withSearch, withWalk};
+
+pub enum Decision {
+    // Nothing, with the hazard to report.
+    Stop(Hazards),
+    // The walk of the base never ends.
+    Endless,
+    // The mark is to hang on this slot, by the base's anchor and its own, with the base's walk.
+    Hang(usize, Point, Point, Signed),
+}
+
+// A decline that reports that another glyph might have been attached to.
+fn stop_from(start: usize, end: usize) -> Decision
+    ensures { λ r. ⌜ (meant r ≡ stop (concat start end ∷ [])) × Sound 0 r ⌝ }
+{
+    Decision::Stop(Hazards::One(Hazard {
+        kind: answers::Kind::Concat,
+        start: start,
+        end: end,
+    }))
+}
+
+fn with_walk(b: usize, idx: usize, base: Point, mark: Point, walk: Walk) -> Decision
+    requires { ⌜ (b < idx) × Near16 base × Near16 mark ⌝ }
+    ensures { λ r. ⌜ (meant r ≡ withWalk b (spotOf base) (spotOf mark) (walkOf walk)) × Sound idx r ⌝ }
+{
+    match walk {
+        Walk::Sum(v) => Decision::Hang(b, base, mark, v),
+        Walk::Never => Decision::Endless,
+    }
+}
+
+// The walk is made only once both anchors are found.
+fn with_anchors(line: &[u8], a: Axis, idx: usize, b: usize, anchors: Found) -> Decision
+    requires { ⌜ (idx < count (now line)) × (b < idx) × FoundNear anchors ⌝ }
+    ensures { λ r. ⌜ (meant r ≡ withAnchors a (slots (now (line .entry))) idx b (anchorsOf anchors)) × Sound idx r ⌝ }
+{
+    match anchors {
+        Found::Both(base, mark) => with_walk(b, idx, base, mark, cross_walk(line, a, b)),
+        Found::Missing => Decision::Stop(Hazards::None),
+        Found::Empty => stop_from(b, idx + 1),
+    }
+}
+
+fn with_found(
+    line: &[u8],
+    t: &[u8],
+    kind: Kind,
+    a: Axis,
+    idx: usize,
+    m: usize,
+    b: usize,
+    covered: Covered,
+) -> Decision
+    requires { ⌜ (idx < count (now line)) × (b < idx) × (marksGood (now t) ≡ true) ⌝ }
+    ensures { λ r. ⌜ (meant r ≡ withFound kind a (now (t .entry)) (slots (now (line .entry))) idx m b covered) × Sound idx r ⌝ }
+{
+    match covered {
+        Covered::At(k) => with_anchors(line, a, idx, b, find_anchors(line, t, kind, k, m, idx, b)),
+        Covered::Not => stop_from(b, idx + 1),
+    }
+}
+
+fn with_search(
+    line: &[u8],
+    t: &[u8],
+    kind: Kind,
+    a: Axis,
+    idx: usize,
+    m: usize,
+    place: Place,
+) -> Decision
+    requires { ⌜ (idx < count (now line)) × Before idx place × (marksGood (now t) ≡ true) ⌝ }
+    ensures { λ r. ⌜ (meant r ≡ withSearch kind a (now (t .entry)) (slots (now (line .entry))) idx m (placeOf place)) × Sound idx r ⌝ }
+{
+    match place {
+        Place::At(b) => with_found(
+            line,
+            t,
+            kind,
+            a,
+            idx,
+            m,
+            b,
+            base_index(t, slots::fields::glyph(line, b)),
+        ),
+        Place::Nowhere => stop_from(0, idx + 1),
+    }
+}
+
+// What is to be done for the mark in slot idx; a is the cross axis. Without a base coverage nothing is searched.
+pub fn decide(line: &[u8], t: &[u8], kind: Kind, a: Axis, idx: usize) -> Decision
+    requires { ⌜ (idx < count (now line)) × (marksGood (now t) ≡ true) ⌝ }
+    ensures { λ r. ⌜ (meant r ≡ planOf kind a (now (t .entry)) (slots (now (line .entry))) idx) × Sound idx r ⌝ }
+{
+    match mark_index(t, slots::fields::glyph(line, idx)) {
+        Covered::Not => Decision::Stop(Hazards::None),
+        Covered::At(m) => {
+            if read_u16(t, 4) == 0 {
+                return Decision::Stop(Hazards::None);
+            }
+            with_search(line, t, kind, a, idx, m, find(line, t, kind, idx))
+        }
+    }
+}

@@ -1,0 +1,51 @@
+// The walk along cursive parents (`cross_offset`). A looping chain would be walked for ever; here the walk makes as many tests as there are slots.
+use ints::big_endian::Signed;
+use ints::saturating::sat_add;
+use slots::axis::Axis;
+use slots::fields::ByteField;
+use slots::fields::Measure;
+use slots::parent::Parent;
+ghost use mathlib.Core.Path.{_≡_};
+ghost use Prim.Native.Nat.{_<_};
+ghost use Rattle.slots.specs.Line.{count, slots};
+ghost use Rattle.marks.specs.Codes.{walkOf};
+ghost use Rattle.marks.specs.Walk.{climb, crossWalk};
+
+// The sum of the cross offsets, or that the walk never ends.
+pub enum Walk {
+    Sum(Signed),
+    Never,
+}
+
+// Where the walk goes on from slot i: a type without the cursive bit leads nowhere.
+fn climb_from(line: &[u8], i: usize) -> Parent
+    requires { ⌜ i < count (now line) ⌝ }
+    ensures { λ r. ⌜ r ≡ climb (slots (now (line .entry))) i ⌝ }
+{
+    if slots::fields::get_byte(line, i, ByteField::AttachType) / 2 % 2 == 1 {
+        return slots::parent::parent_of(line, i);
+    }
+    Parent::None
+}
+
+// The cross offset of slot i, summed along its cursive chain, from the slot outward.
+pub fn cross_walk(line: &[u8], a: Axis, i: usize) -> Walk
+    requires { ⌜ i < count (now line) ⌝ }
+    ensures { λ r. ⌜ walkOf r ≡ crossWalk a (slots (now (line .entry))) i ⌝ }
+{
+    let mut left = slots::fields::slot_count(line);
+    let mut at = i;
+    let mut sum = slots::fields::get(line, i, Measure::Offset, a);
+    while 0 < left {
+        match climb_from(line, at) {
+            Parent::None => return Walk::Sum(sum),
+            Parent::Outside => return Walk::Sum(sum),
+            Parent::At(j) => {
+                at = j;
+                sum = sat_add(sum, slots::fields::get(line, j, Measure::Offset, a));
+                left -= 1;
+            }
+        }
+    }
+    Walk::Never
+}

@@ -1,0 +1,58 @@
+-- Laws of applying: what the two records make of a line, and a plan's effect. Assumes nothing.
+use mathlib.Core.Path.{_≡_, refl, sym, ap, _∙_}
+use mathlib.Core.Bool.{Bool, true, false, _||_}
+use mathlib.Core.List.{List}
+use Prim.Native.Nat.{ℕ, _+_}
+use Rattle.slots.specs.Slot.{Slot}
+use Rattle.slots.specs.Line.{update}
+use Rattle.slots.specs.declared.axis.Direction.{Direction}
+use Rattle.values.specs.Format.{recordAt, recordLength}
+use Rattle.values.specs.Value.{valued, worked}
+use Rattle.answers.specs.Said.{Range, Said, declined}
+use Rattle.answers.specs.Outcome.{Effect, slotsAfter}
+use Rattle.pair.specs.PairPos.{format1, format2}
+use Rattle.pair.specs.Plan.{Plan, adjust, stop}
+use Rattle.pair.specs.Adjustment.{eitherWorked, firstRecord, hasSecond, secondRecord, pairSaid, planned, planSaid}
+
+-- ---- two records and their formats, by other names
+module _ (s u : ℕ) (d : Direction) (r₁ q₁ r₂ q₂ : List ℕ) (f₁ g₁ f₂ g₂ : ℕ) (a₁ : r₁ ≡ q₁) (a₂ : r₂ ≡ q₂) (b₁ : f₁ ≡ g₁) (b₂ : f₂ ≡ g₂) where
+  same-slots : (i j : ℕ) (ss mid end : List Slot) → mid ≡ update i (valued s u d r₁ f₁) ss → end ≡ update j (valued s u d r₂ f₂) mid
+      → end ≡ update j (valued s u d q₂ g₂) (update i (valued s u d q₁ g₁) ss)
+  same-slots i j ss mid end p q = cc
+
+  same-works : (w₁ w₂ : Bool) → w₁ ≡ worked d r₁ f₁ → w₂ ≡ worked d r₂ f₂ → w₁ || w₂ ≡ worked d q₁ g₁ || worked d q₂ g₂
+  same-works w₁ w₂ p q = cc
+
+-- ---- the two records, one after the other: f₁ and f₂ are the formats as code reads them, r₁ and r₂ the records, k the length of the first
+module _ (s u : ℕ) (d : Direction) (t table : List ℕ) (at f₁ f₂ k : ℕ) (r₁ r₂ : List ℕ) (e₁ : f₁ ≡ format1 t) (e₂ : f₂ ≡ format2 t) (len : k ≡ recordLength f₁)
+    (first : r₁ ≡ recordAt table at f₁) (second : r₂ ≡ recordAt table (at + k) f₂) where
+  first-is : r₁ ≡ firstRecord t table at
+  first-is = first ∙ ap (recordAt table at) e₁
+
+  second-is : r₂ ≡ secondRecord t table at
+  second-is = second ∙ ap (λ (n : ℕ). recordAt table (at + n) f₂) (len ∙ ap recordLength e₁) ∙ ap (recordAt table (at + recordLength (format1 t))) e₂
+
+  pub both-applied : (i j : ℕ) (ss mid end : List Slot) → mid ≡ update i (valued s u d r₁ f₁) ss → end ≡ update j (valued s u d r₂ f₂) mid
+      → end ≡ planned s u d t i (adjust table at j) ss
+  both-applied i j ss mid end p q =
+      same-slots s u d r₁ (firstRecord t table at) r₂ (secondRecord t table at) f₁ (format1 t) f₂ (format2 t) first-is second-is e₁ e₂ i j ss mid end p q
+
+  pub either-works : (w₁ w₂ : Bool) → w₁ ≡ worked d r₁ f₁ → w₂ ≡ worked d r₂ f₂ → w₁ || w₂ ≡ eitherWorked d t table at
+  either-works w₁ w₂ p q =
+      same-works s u d r₁ (firstRecord t table at) r₂ (secondRecord t table at) f₁ (format1 t) f₂ (format2 t) first-is second-is e₁ e₂ w₁ w₂ p q
+
+-- ---- what a plan leaves
+module _ (s u : ℕ) (d : Direction) (t : List ℕ) (idx : ℕ) (ss : List Slot) (plan : Plan) where
+  pub declines : (hazards : List Range) → stop hazards ≡ plan → Effect ss (planSaid d t idx plan) (planned s u d t idx plan ss) (declined hazards) ss
+  declines hazards e = rw (← e) record { answer = refl; slots-are = refl }
+
+  -- an applied pair takes the new slots
+  after : (w more : Bool) (second : ℕ) (new : List Slot) → slotsAfter (pairSaid w more idx second) ss new ≡ new
+  after w true second new = refl
+  after w false second new = refl
+
+  pub adjusts : (table : List ℕ) (at second : ℕ) → adjust table at second ≡ plan → (given : Said) (w more : Bool) (ss′ : List Slot)
+      → given ≡ pairSaid w more idx second → w ≡ eitherWorked d t table at → more ≡ hasSecond t → ss′ ≡ planned s u d t idx (adjust table at second) ss
+      → Effect ss (planSaid d t idx plan) (planned s u d t idx plan ss) given ss′
+  adjusts table at second e given w more ss′ a p q n =
+      rw (← e, ← p, ← q) record { answer = a; slots-are = n ∙ sym (after w more second (planned s u d t idx (adjust table at second) ss)) }

@@ -1,0 +1,99 @@
+-- Laws of the plan: one equation for each way through the code that finds a pair's record. Assumes nothing.
+use mathlib.Core.Path.{_≡_, refl, sym, ap, _∙_}
+use mathlib.Core.Bool.{Bool, true, false}
+use mathlib.Core.List.{List, []}
+use Prim.Native.Nat.{ℕ, _+_, _*_, _≤_, _<_}
+use native.Mathlib.Nat.{le-of-lt, mul-le-mul}
+use native.Mathlib.Omega.{arith}
+use lib.Dec.{eqb}
+use lib.ListN.{drop, length, length-drop}
+use borrow.Author.Tests.{eq-eqb, le-leb, le-ltb, lt-leb, lt-ltb, ne-eqb}
+use Rattle.ints.specs.BigEndian.{natAt}
+use Rattle.ints.specs.Choice.{if_then_else_}
+use Rattle.slots.specs.Slot.{Slot}
+use Rattle.slots.specs.Line.{slot}
+use Rattle.tables.specs.ClassDef.{classAt}
+use Rattle.tables.specs.Part.{tableAt}
+use Rattle.tables.specs.declared.coverage.Covered.{Covered}
+use Rattle.answers.specs.declared.Neighbour.{Neighbour}
+use Rattle.pair.specs.PairPos.{firstClasses, firstIndex, pairLength, pairSet, posFormat, secondClasses}
+use Rattle.pair.specs.PairSet.{probe}
+use Rattle.pair.specs.Plan.{adjust, fromClasses, fromCovered, fromProbe, fromSecond, fromSet, missed, planOf, stop}
+use Rattle.pair.specs.declared.pair_set.Probe.{Probe}
+
+-- ---- the offset of pair set k, of the n that the header counts: past the count, cut, there
+module _ (t : List ℕ) (k n : ℕ) (count : n ≡ natAt 2 t 8) where
+  pub set-past : n ≤ k → tableAt t 0 ≡ pairSet t k
+  set-past h = rw (← count) (simp (le-ltb k n h))
+
+  pub set-cut : k < n → length t < 10 + 2 * k + 2 → tableAt t 0 ≡ pairSet t k
+  set-cut h l = rw (← count) (simp (lt-ltb k n h, lt-leb (10 + 2 * k + 2) (length t) l))
+
+  pub set-there : k < n → 10 + 2 * k + 2 ≤ length t → (r : ℕ) → r ≡ natAt 2 t (10 + 2 * k) → tableAt t r ≡ pairSet t k
+  set-there h l r e = rw (← count) (simp (lt-ltb k n h, le-leb (10 + 2 * k + 2) (length t) l, ← e))
+
+-- ---- the table at an offset, where it has two bytes: it is the part from there to the end
+module _ (t : List ℕ) (off : ℕ) (set : List ℕ) (e : set ≡ tableAt t off) (h : 2 ≤ length set) where
+  pub set-part : set ≡ drop off t
+  set-part = go (eqb off 0) e
+    where
+      go : (b : Bool) → set ≡ (if b then [] else drop off t) → set ≡ drop off t
+      go true q = absurd (omega (arith, ap length q))
+      go false q = q
+
+  pub set-in : off ≤ length t
+  set-in = omega (arith, ap length set-part, length-drop off t)
+
+-- ---- format 1: a set under 2 bytes, and one that is probed
+module _ (t : List ℕ) (idx second g off k : ℕ) (set : List ℕ) (e : set ≡ tableAt t off) (s : tableAt t off ≡ pairSet t k) where
+  pub short-set : length set < 2 → stop [] ≡ fromSet t idx second g (pairSet t k)
+  short-set h = rw (← s, ← e) (simp (lt-ltb (length set) 2 h))
+
+  pub probed-set : 2 ≤ length set → (size : ℕ) → size ≡ pairLength t → (found : Probe) → found ≡ probe set (2 + size) g
+      → fromProbe idx second (drop off t) found ≡ fromSet t idx second g (pairSet t k)
+  probed-set h size w found f =
+      ap (λ (l : List ℕ). fromProbe idx second l found) (sym (set-part t off set e h))
+      ∙ ap (fromProbe idx second set) (f ∙ ap (λ (n : ℕ). probe set (2 + n) g) w)
+      ∙ sym (rw (← s, ← e) (simp (le-ltb (length set) 2 h)))
+
+-- ---- format 2: a class outside its count, a record that is cut, and one that is there
+module _ (t : List ℕ) (idx second c₁ c₂ n₁ n₂ : ℕ) (e₁ : n₁ ≡ firstClasses t) (e₂ : n₂ ≡ secondClasses t) where
+  pub first-outside : n₁ ≤ c₁ → missed idx second ≡ fromClasses t idx second c₁ c₂
+  first-outside h = rw (← e₁) (simp (le-ltb c₁ n₁ h))
+
+  module _ (h₁ : c₁ < n₁) where
+    pub second-outside : n₂ ≤ c₂ → missed idx second ≡ fromClasses t idx second c₁ c₂
+    second-outside h = rw (← e₁, ← e₂) (simp (lt-ltb c₁ n₁ h₁, le-ltb c₂ n₂ h))
+
+    module _ (h₂ : c₂ < n₂) (size : ℕ) (e : size ≡ pairLength t) where
+      pub record-cut : length t < 16 + size * (c₁ * n₂ + c₂) + size → missed idx second ≡ fromClasses t idx second c₁ c₂
+      record-cut h = rw (← e₁, ← e₂, ← e) (simp (lt-ltb c₁ n₁ h₁, lt-ltb c₂ n₂ h₂, lt-leb (16 + size * (c₁ * n₂ + c₂) + size) (length t) h))
+
+      pub record-there : 16 + size * (c₁ * n₂ + c₂) + size ≤ length t
+          → adjust t (16 + size * (c₁ * n₂ + c₂)) second ≡ fromClasses t idx second c₁ c₂
+      record-there h = rw (← e₁, ← e₂, ← e) (simp (lt-ltb c₁ n₁ h₁, lt-ltb c₂ n₂ h₂, le-leb (16 + size * (c₁ * n₂ + c₂) + size) (length t) h))
+
+-- the place of a record of two classes is a small number
+pub classes-small : (c n : ℕ) → c < 65536 → n < 65536 → c * n ≤ 4294967296
+classes-small c n h l = mul-le-mul (le-of-lt h) (le-of-lt l)
+
+pub place-small : (size k : ℕ) → size ≤ 32 → k ≤ 4295032832 → size * k ≤ 137441050624
+place-small size k h l = mul-le-mul h l
+
+-- ---- the two formats
+module _ (t : List ℕ) (ss : List Slot) (idx k second : ℕ) where
+  pub by-set : (format g : ℕ) → format ≡ posFormat t → format ≡ 1 → g ≡ slot ss second .glyph
+      → fromSet t idx second g (pairSet t k) ≡ fromSecond t ss idx k second
+  by-set format g f one e = rw (← e) (simp (eq-eqb (posFormat t) 1 (sym f ∙ one)))
+
+  pub by-classes : (posFormat t ≡ 1 → ⊥) → (g₁ g₂ o₁ o₂ c₁ c₂ : ℕ) → g₁ ≡ slot ss idx .glyph → g₂ ≡ slot ss second .glyph
+      → o₁ ≡ natAt 2 t 8 → o₂ ≡ natAt 2 t 10 → c₁ ≡ classAt t o₁ g₁ → c₂ ≡ classAt t o₂ g₂
+      → fromClasses t idx second c₁ c₂ ≡ fromSecond t ss idx k second
+  by-classes two g₁ g₂ o₁ o₂ c₁ c₂ a b p q u v =
+      rw (ne-eqb (posFormat t) 1 two, ← a, ← b, ← p, ← q, ← u, ← v) refl
+
+-- ---- coverage comes first
+module _ (t : List ℕ) (ss : List Slot) (idx : ℕ) (n : Neighbour) (g : ℕ) (e : g ≡ slot ss idx .glyph) where
+  pub by-coverage : (r : Covered) → r ≡ firstIndex t g → fromCovered t ss idx n r ≡ planOf t ss idx n
+  unfolding planOf
+  by-coverage r i = ap (fromCovered t ss idx n) (i ∙ ap (firstIndex t) e)

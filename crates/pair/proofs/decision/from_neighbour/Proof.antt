@@ -1,0 +1,51 @@
+-- `pair::decision::from_neighbour` meets its contract: a neighbour that is named is after this slot and in the line, and one that is missing has its bound reported.
+-- Assumes nothing.
+use mathlib.Core.Path.{sym, ap, subst, _∙_}
+use borrow.Author.Needs.{needs}
+use denote.Ref.{now}
+use Rattle.slots.specs.Line.{count, slots}
+use Rattle.pair.specs.Codes.{After}
+use Rattle.pair.specs.Plan.{fromNeighbour, stop}
+use Rattle.pair.proofs.decision.from_neighbour.Statement.{statement}
+use Rattle.pair.proofs.decision.from_neighbour.Tie as tie
+
+enum-known-neighbour : tie.Need-enum-known-neighbour
+enum-known-neighbour c = search needs
+
+from-second-requires : tie.Need-from-second-requires
+from-second-requires c κs =
+    let m = c .before in
+    let s = m .before .before .before .before in
+    let w = subst (After (count (now (s .args .line))) (s .args .idx)) (m .neighbour .given .1) (s .pre .2) in
+    (s .pre .0, w .0, w .1)
+
+enum-known-neighbour-2 : tie.Need-enum-known-neighbour-2
+enum-known-neighbour-2 c = search needs
+
+concat-from-requires : tie.Need-concat-from-requires
+concat-from-requires c κs = search needs
+
+returns : tie.Need-returns
+returns c =
+    let m = c .before .before in
+    let a = m .before .before .before .before .args in (
+      c .from-second .ensures .0 ∙ sym (ap (fromNeighbour (now (a .t)) (slots (now (a .line))) (a .idx) (a .k)) (m .neighbour .given .1)),
+      c .from-second .ensures .1,
+    )
+
+returns-2 : tie.Need-returns-2
+returns-2 c =
+    let m = c .before .before in
+    let a = m .before .before .before .before .args in
+    (ap stop (c .concat-from .ensures) ∙ sym (ap (fromNeighbour (now (a .t)) (slots (now (a .line))) (a .idx) (a .k)) (m .neighbour2 .given .1)), tt)
+
+pub from-neighbour-spec : {M : Type 1} → statement M
+from-neighbour-spec =
+    tie.close
+    (tie.spec
+    enum-known-neighbour
+    from-second-requires
+    enum-known-neighbour-2
+    concat-from-requires
+    returns
+    returns-2)

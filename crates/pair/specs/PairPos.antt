@@ -1,0 +1,69 @@
+-- The PairPos subtable (OpenType, GPOS). Assumes nothing.
+--   format 1: uint16 posFormat, Offset16 coverageOffset, uint16 valueFormat1, valueFormat2, uint16 pairSetCount, Offset16 pairSetOffsets[pairSetCount]
+--   format 2: uint16 posFormat, Offset16 coverageOffset, uint16 valueFormat1, valueFormat2, Offset16 classDef1Offset, classDef2Offset, uint16 class1Count, class2Count,
+--     then for each first class a row of records, one for each second class, each of a value record by valueFormat1 and one by valueFormat2
+use mathlib.Core.Bool.{Bool, true, _&&_, _||_}
+use mathlib.Core.List.{List}
+use Prim.Native.Nat.{ℕ, _+_, _*_}
+use lib.Dec.{eqb, leb}
+use lib.ListN.{length}
+use Rattle.ints.specs.BigEndian.{natAt}
+use Rattle.ints.specs.Choice.{if_then_else_}
+use Rattle.tables.specs.ClassDef.{classAt, classGoodAt}
+use Rattle.tables.specs.Coverage.{coverageAt, coverageGoodAt}
+use Rattle.tables.specs.Part.{childOf}
+use Rattle.tables.specs.declared.coverage.Covered.{Covered}
+use Rattle.values.specs.Format.{recordLength}
+
+-- the fields of the header
+abbrev pub posFormat : List ℕ → ℕ
+posFormat t = natAt 2 t 0
+
+abbrev pub format1 : List ℕ → ℕ
+format1 t = natAt 2 t 4
+
+abbrev pub format2 : List ℕ → ℕ
+format2 t = natAt 2 t 6
+
+-- the header is whole and its format known: 10 bytes in format 1, 16 in format 2
+unfoldable pub headerGood : List ℕ → Bool
+headerGood t = leb 10 (length t) && (eqb (posFormat t) 1 || (eqb (posFormat t) 2 && leb 16 (length t)))
+
+-- the class lists of format 2 are good
+unfoldable pub classesGood : List ℕ → Bool
+classesGood t = if eqb (posFormat t) 1 then true else classGoodAt t (natAt 2 t 8) && classGoodAt t (natAt 2 t 10)
+
+-- what refusal 6 asks of the subtable: not too long, header good, value formats known, coverage and class lists good
+unfoldable pub pairGood : List ℕ → Bool
+pairGood t =
+    leb (length t) 65536
+    && (headerGood t && (leb (format1 t) 255 && (leb (format2 t) 255 && (coverageGoodAt t (natAt 2 t 2) && classesGood t))))
+
+-- the coverage index of a first glyph
+abbrev pub firstIndex : List ℕ → ℕ → Covered
+firstIndex t g = coverageAt t (natAt 2 t 2) g
+
+-- the bytes of the two value records together
+abbrev pub pairLength : List ℕ → ℕ
+pairLength t = recordLength (format1 t) + recordLength (format2 t)
+
+-- format 1: the pair set of a coverage index
+abbrev pub pairSet : List ℕ → ℕ → List ℕ
+pairSet t k = childOf t 10 (natAt 2 t 8) k
+
+-- format 2: the classes of the two glyphs, and how many there are of each
+abbrev pub firstClass : List ℕ → ℕ → ℕ
+firstClass t g = classAt t (natAt 2 t 8) g
+
+abbrev pub secondClass : List ℕ → ℕ → ℕ
+secondClass t g = classAt t (natAt 2 t 10) g
+
+abbrev pub firstClasses : List ℕ → ℕ
+firstClasses t = natAt 2 t 12
+
+abbrev pub secondClasses : List ℕ → ℕ
+secondClasses t = natAt 2 t 14
+
+-- where the record of two classes is
+abbrev pub classRecord : List ℕ → ℕ → ℕ → ℕ
+classRecord t c₁ c₂ = 16 + pairLength t * (c₁ * secondClasses t + c₂)
