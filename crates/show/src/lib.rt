@@ -1,21 +1,14 @@
-// Printing for the programs: text and numbers on standard output.
-use ints::big_endian::Signed;
-use libc::STDOUT_FILENO;
+// Printing for the programs: the text of numbers, slots and answers, and writing it to standard output.
+mod numbers; // a number as text
+mod rows; // a slot as a line of text
+mod printing; // writing
 
-pub fn text(s: &[u8]) {
-    io::write_all(STDOUT_FILENO, s);
-}
-
-pub fn natural(n: u64) {
-    io::print_decimal(STDOUT_FILENO, n);
-}
-
-// A signed number, which code holds as its bits.
-pub fn integer(v: Signed) {
-    if v < 2147483648 {
-        natural(v as u64);
-        return;
-    }
-    text(b"-");
-    natural(4294967296 - v as u64);
-}
+pub use numbers::spell;
+pub use printing::done;
+pub use printing::integer;
+pub use printing::natural;
+pub use printing::refusal_number;
+pub use printing::refused;
+pub use printing::slot;
+pub use printing::text;
+pub use rows::row;

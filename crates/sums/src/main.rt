@@ -1,31 +1,6 @@
 // Sums worked by hand in document 01, run: each line says what was done and what came of it.
-use answers::Done;
-use answers::Refusal;
 use slots::fields::ByteField;
 ghost use Prim.Native.Nat.{_<_};
-
-fn refusal_number(r: Refusal) -> u64 {
-    match r {
-        Refusal::Line => 1,
-        Refusal::Direction => 2,
-        Refusal::Number => 3,
-        Refusal::Slot => 4,
-        Refusal::Index => 5,
-        Refusal::Subtable => 6,
-        Refusal::Endless => 7,
-    }
-}
-
-fn show_done(d: Done) {
-    match d {
-        Done::Done => show::text(b"done\n"),
-        Done::Refused(r) => {
-            show::text(b"refused ");
-            show::natural(refusal_number(r));
-            show::text(b"\n");
-        }
-    }
-}
 
 // P1: 3 and -3 at half size.
 fn scales() {
@@ -44,7 +19,7 @@ fn start_zeros(n: usize) {
     show::natural(n as u64);
     show::text(b" bytes: ");
     if n <= all.len() {
-        show_done(gpos::start(&mut all[..n]));
+        show::done(gpos::start(&mut all[..n]));
     }
 }
 
@@ -60,7 +35,7 @@ fn start_with(name: &[u8], f: ByteField, n: u8) {
     show::text(b" ");
     show::natural(n as u64);
     show::text(b": ");
-    show_done(gpos::start(line));
+    show::done(gpos::start(line));
 }
 
 fn show_attachment(line: &[u8], i: usize) {
@@ -99,7 +74,7 @@ fn start_old_attachments() {
     show_attachment(line, 1);
     show_attachment(line, 2);
     show::text(b"  ");
-    show_done(gpos::start(line));
+    show::done(gpos::start(line));
     show_attachment(line, 0);
     show_attachment(line, 1);
     show_attachment(line, 2);

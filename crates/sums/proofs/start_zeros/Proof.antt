@@ -33,8 +33,8 @@ slice-aggregate-start c = sym (length-take-le _ _ (omega arith))
 start-requires : tie.Need-start-requires
 start-requires c κs = search needs
 
-show-done-requires : tie.Need-show-done-requires
-show-done-requires c κs = search needs
+done-requires : tie.Need-done-requires
+done-requires c κs = search needs
 
 returns : tie.Need-returns
 returns c = search needs
@@ -55,6 +55,6 @@ start-zeros-spec =
     text-requires-2
     slice-aggregate-start
     start-requires
-    show-done-requires
+    done-requires
     returns
     returns-2)

@@ -1,0 +1,219 @@
+// Finishing run on lines of 1,024 slots: every direction, nesting limits 0, 1 and 64, marks and cursive glyphs before and after what they hang on,
+// loops, types and chains of every kind, and sums past 32 bits; then what is refused, and finishing without the flag.
+use answers::Done;
+use ints::big_endian::Signed;
+use slots::axis::Axis;
+use slots::fields::ByteField;
+use slots::fields::Measure;
+ghost use Prim.Native.Nat.{_≤_, _<_};
+ghost use Rattle.ints.specs.Signed.{InBytes, val};
+ghost use Rattle.slots.specs.Line.{count};
+
+// How the slots of a line hang on each other.
+enum Case {
+    Stacked,
+    Ahead,
+    CursiveUp,
+    CursiveDown,
+    Pairs,
+    Rings,
+    Mixed,
+    Huge,
+}
+
+fn show_case(case: Case) {
+    match case {
+        Case::Stacked => show::text(b"marks on the slot before, a base each eight slots\n"),
+        Case::Ahead => show::text(b"marks on the slot after, a base each eight slots\n"),
+        Case::CursiveUp => show::text(b"cursive glyphs on the slot after\n"),
+        Case::CursiveDown => show::text(b"cursive glyphs on the slot before\n"),
+        Case::Pairs => show::text(b"loops of two cursive glyphs\n"),
+        Case::Rings => show::text(b"loops of eight, marks and cursive glyphs in turn\n"),
+        Case::Mixed => show::text(b"types 0 to 3, chains -10 to 10\n"),
+        Case::Huge => show::text(b"the same, with sums past 32 bits\n"),
+    }
+}
+
+// The attach type of slot i.
+fn kind_of(case: Case, i: u32) -> u8
+    requires { ⌜ i < 2048 ⌝ }
+{
+    match case {
+        Case::Stacked => 1,
+        Case::Ahead => 1,
+        Case::CursiveUp => 2,
+        Case::CursiveDown => 2,
+        Case::Pairs => 2,
+        Case::Rings => (1 + i % 2) as u8,
+        Case::Mixed => ((i * 7 + i / 3) % 4) as u8,
+        Case::Huge => ((i * 7 + i / 3) % 4) as u8,
+    }
+}
+
+// The chain of slot i, and 10.
+fn chain_and_ten(case: Case, i: u32) -> u32
+    requires { ⌜ i < 2048 ⌝ }
+    ensures { λ r. ⌜ r ≤ 20 ⌝ }
+{
+    match case {
+        Case::Stacked => if i % 8 == 0 { 10 } else { 9 },
+        Case::Ahead => if i % 8 == 7 { 10 } else { 11 },
+        Case::CursiveUp => 11,
+        Case::CursiveDown => 9,
+        Case::Pairs => if i % 2 == 0 { 11 } else { 9 },
+        Case::Rings => if i % 8 == 7 { 3 } else { 11 },
+        Case::Mixed => (i * 5 + i / 7) % 21,
+        Case::Huge => (i * 5 + i / 7) % 21,
+    }
+}
+
+// A number from -10 to 10, from one that is 10 more.
+fn less_ten(n: u32) -> Signed
+    requires { ⌜ n ≤ 20 ⌝ }
+    ensures { λ r. ⌜ InBytes 2 (val r) ⌝ }
+{
+    if n < 10 { n + 4294967286 } else { n - 10 }
+}
+
+// A number from -500 to 500 that depends on n; in the huge case four million times that.
+fn spread(case: Case, n: u32) -> Signed
+    requires { ⌜ n < 1000000 ⌝ }
+{
+    let m = n as u64 % 1001;
+    match case {
+        Case::Huge => ((m * 4000000 + 2294967296) % 4294967296) as u32,
+        _ => ((m + 4294966796) % 4294967296) as u32,
+    }
+}
+
+// The type and the chain of slot i.
+fn hang(line: &mut [u8], i: usize, case: Case)
+    requires { ⌜ (i < count (now line)) × (i < 2048) ⌝ }
+{
+    let n = i as u32;
+    slots::fields::set_byte(line, i, ByteField::AttachType, kind_of(case, n));
+    slots::fields::set_chain(line, i, less_ten(chain_and_ten(case, n)));
+}
+
+// The advances or the offsets of slot i.
+fn set_both(line: &mut [u8], i: usize, m: Measure, x: Signed, y: Signed)
+    requires { ⌜ i < count (now line) ⌝ }
+{
+    slots::fields::set(line, i, m, Axis::X, x);
+    slots::fields::set(line, i, m, Axis::Y, y);
+}
+
+fn fill_slot(line: &mut [u8], i: usize, case: Case)
+    requires { ⌜ (i < count (now line)) × (i < 2048) ⌝ }
+{
+    let n = i as u32;
+    let x = spread(case, n * 37);
+    let y = spread(case, n * 53);
+    let to_x = spread(case, n * 71);
+    let to_y = spread(case, n * 89);
+    hang(line, i, case);
+    set_both(line, i, Measure::Advance, x, y);
+    set_both(line, i, Measure::Offset, to_x, to_y);
+}
+
+fn fill(line: &mut [u8], case: Case)
+    requires { ⌜ count (now line) < 2048 ⌝ }
+{
+    let n = slots::fields::slot_count(line);
+    let mut i = 0;
+    while i < n {
+        fill_slot(line, i, case);
+        i += 1;
+    }
+}
+
+// A number that stands for all bytes of a line.
+fn checksum(line: &[u8]) -> u64 {
+    let mut sum: u64 = 0;
+    let mut i = 0;
+    while i < line.len() {
+        sum = (sum * 257 + line[i] as u64) % 4294967291;
+        i += 1;
+    }
+    sum
+}
+
+// How many slots have a chain.
+fn chained(line: &[u8]) -> u64 {
+    let n = slots::fields::slot_count(line);
+    let mut left: u64 = 0;
+    let mut i = 0;
+    while i < n {
+        if slots::fields::chain(line, i) != 0 {
+            left += 1;
+        }
+        i += 1;
+    }
+    left
+}
+
+fn show_line(line: &[u8]) {
+    show::text(b"checksum ");
+    show::natural(checksum(line));
+    show::text(b", chains left ");
+    show::natural(chained(line));
+    show::text(b"\n");
+}
+
+fn show_answer(answer: Done) {
+    match answer {
+        Done::Done => show::text(b"done, "),
+        Done::Refused(r) => {
+            show::text(b"refused ");
+            show::natural(show::refusal_number(r));
+            show::text(b", ");
+        }
+    }
+}
+
+// A line of 1,024 slots is filled, finished and shown.
+fn run(case: Case, direction: u32, limit: u32, attachments: bool) {
+    let mut space = [0u8; 24576];
+    let line: &mut [u8] = &mut space;
+    fill(line, case);
+    show::text(b"  direction ");
+    show::natural(direction as u64);
+    show::text(b" limit ");
+    show::natural(limit as u64);
+    show::text(b": ");
+    show_answer(gpos::finish(line, direction, limit, attachments));
+    show_line(line);
+}
+
+fn run_limits(case: Case, direction: u32) {
+    run(case, direction, 0, true);
+    run(case, direction, 1, true);
+    run(case, direction, 64, true);
+}
+
+fn run_case(case: Case) {
+    show_case(case);
+    run_limits(case, 0);
+    run_limits(case, 1);
+    run_limits(case, 2);
+    run_limits(case, 3);
+}
+
+fn main() {
+    run_case(Case::Stacked);
+    run_case(Case::Ahead);
+    run_case(Case::CursiveUp);
+    run_case(Case::CursiveDown);
+    run_case(Case::Pairs);
+    run_case(Case::Rings);
+    run_case(Case::Mixed);
+    run_case(Case::Huge);
+    show::text(b"refused\n");
+    run(Case::Mixed, 0, 65, true);
+    run(Case::Mixed, 4, 64, true);
+    run(Case::Mixed, 4, 65, true);
+    show::text(b"without the flag\n");
+    run(Case::Mixed, 0, 64, false);
+    run(Case::Mixed, 3, 0, false);
+    run(Case::Mixed, 0, 65, false);
+}

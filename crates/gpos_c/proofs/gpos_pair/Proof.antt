@@ -1,0 +1,27 @@
+-- It answers what pair answers for the neighbour that the numbers name. Assumes nothing.
+use mathlib.Core.Path.{sym}
+use borrow.Author.Needs.{needs}
+use Rattle.gpos_c.proofs.gpos_pair.Statement.{statement}
+use Rattle.gpos_c.proofs.gpos_pair.Tie as tie
+
+neighbour-of-requires : tie.Need-neighbour-of-requires
+neighbour-of-requires c κs = search needs
+
+pair-requires : tie.Need-pair-requires
+pair-requires c κs = search needs
+
+flat-of-requires : tie.Need-flat-of-requires
+flat-of-requires c κs = search needs
+
+same-length : tie.Need-same-length
+same-length c = search needs
+
+returns : tie.Need-returns
+returns c =
+    let call = c .before .before .before .pair in
+    let named = c .before .before .before .before .neighbour-of .ensures in
+    record { answer = call .result; may = rw (sym named) (call .ensures); numbers = c .flat-of .ensures }
+
+pub gpos-pair-spec : {M : Type 1} → statement M
+gpos-pair-spec =
+    tie.close (tie.spec neighbour-of-requires pair-requires flat-of-requires same-length returns)

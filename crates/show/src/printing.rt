@@ -1,0 +1,67 @@
+// Writing to standard output.
+use crate::numbers::MOST_TEXT;
+use crate::numbers::spell;
+use crate::rows::MOST_ROW;
+use crate::rows::row;
+use answers::Done;
+use answers::Refusal;
+use ints::big_endian::Signed;
+use libc::STDOUT_FILENO;
+ghost use mathlib.Core.Path.{_≡_};
+ghost use Prim.Native.Nat.{_<_};
+ghost use Rattle.slots.specs.Line.{count};
+ghost use Rattle.answers.specs.Said.{refusalNumber};
+
+pub fn text(s: &[u8]) {
+    io::write_all(STDOUT_FILENO, s);
+}
+
+pub fn natural(n: u64) {
+    io::print_decimal(STDOUT_FILENO, n);
+}
+
+// A signed number, which code holds as its bits.
+pub fn integer(v: Signed) {
+    let mut space = [0u8; MOST_TEXT];
+    let n = spell(v, &mut space);
+    text(&space[..n]);
+}
+
+// A slot's number, advances and offsets, as a line.
+pub fn slot(line: &[u8], i: usize)
+    requires { ⌜ (i < count (now line)) × (i < 2147483648) ⌝ }
+{
+    let mut space = [0u8; MOST_ROW];
+    let n = row(line, i, &mut space);
+    text(&space[..n]);
+}
+
+// Document 01's number of a refusal.
+pub fn refusal_number(r: Refusal) -> u64
+    ensures { λ n. ⌜ n ≡ refusalNumber r ⌝ }
+{
+    match r {
+        Refusal::Line => 1,
+        Refusal::Direction => 2,
+        Refusal::Number => 3,
+        Refusal::Slot => 4,
+        Refusal::Index => 5,
+        Refusal::Subtable => 6,
+        Refusal::Endless => 7,
+    }
+}
+
+// A refusal, with its number, as a line.
+pub fn refused(r: Refusal) {
+    text(b"refused ");
+    natural(refusal_number(r));
+    text(b"\n");
+}
+
+// What starting or finishing answered, as a line.
+pub fn done(d: Done) {
+    match d {
+        Done::Done => text(b"done\n"),
+        Done::Refused(r) => refused(r),
+    }
+}
