@@ -1,5 +1,5 @@
 -- What code makes of the line, call by call, is what the definitions say. Assumes nothing.
-use mathlib.Core.Bool.{Bool, true, false, _&&_}
+use mathlib.Core.Bool.{Bool, true, false}
 use mathlib.Core.List.{List}
 use mathlib.Core.Path.{_≡_, refl, sym, ap, ap₂, _∙_}
 use Prim.Native.Nat.{ℕ, _%_, _<_}
@@ -8,7 +8,6 @@ use borrow.Author.Tests.{eq-eqb, le-leb, leb-true, ne-eqb}
 use lib.Dec.{leb}
 use lib.IntN.{ℤ, pos, negsuc, negℤ}
 use lib.ListN.{length}
-use lib.Signed.{leZ}
 use Rattle.ints.specs.Saturating.{less, negated, plus}
 use Rattle.ints.specs.Signed.{InBytes, pattern, signed, val}
 use Rattle.ints.proofs.SaturatingLaws.{negated-exact}
@@ -32,9 +31,11 @@ use Rattle.cursive.proofs.UpdateLaws.{update-as, update-both}
 
 -- ---- along the line
 module _ (a : Axis) (i : ℕ) (ss : List Slot) (z : ℤ) {o : ℤ} (offset-is : o ≡ offset a (slot ss i)) where
+  -- the advance set to the sum that was computed
   pub ended-is : {v : ℤ} {ss₁ : List Slot} → v ≡ plus z o → ss₁ ≡ update i (withMeasure Advance a v) ss → ss₁ ≡ update i (ended a z) ss
   ended-is {v} v-is e = e ∙ update-as i ss (withMeasure Advance a v) (ended a z) (rw (v-is, offset-is))
 
+  -- the advance set, then the offset, each less the sum that was computed
   pub pulled-is : {d m v w : ℤ} {ss₁ ss₂ : List Slot} → i < length ss → d ≡ advance a (slot ss i) → m ≡ plus z o → v ≡ less d m
       → ss₁ ≡ update i (withMeasure Advance a v) ss → w ≡ less o m → ss₂ ≡ update i (withMeasure Offset a w) ss₁ → ss₂ ≡ update i (pulled a z) ss
   pulled-is {d} {m} {v} {w} lt d-is m-is v-is e₁ w-is e₂ =
@@ -42,7 +43,7 @@ module _ (a : Axis) (i : ℕ) (ss : List Slot) (z : ℤ) {o : ℤ} (offset-is : 
       ∙ update-as i ss (λ s. withMeasure Offset a w (withMeasure Advance a v s)) (pulled a z) (rw (w-is, v-is, m-is, d-is, offset-is))
 
 -- ---- across it
--- the test for the same integer
+-- the test for the same integer: an integer passes with itself, and with no other
 same-self : (z : ℤ) → sameAs z z ≡ true
 same-self (pos n) = simp (le-leb n n (omega arith))
 same-self (negsuc n) = simp (le-leb n n (omega arith))
@@ -66,6 +67,7 @@ val-same v w h k e = sym (pattern-signed 4 v h) ∙ ap (pattern 4) e ∙ pattern
 
 module _ (a : Axis) (parent : ℕ) (ss : List Slot) (chain here back : ℕ) (small : InBytes 2 (val chain)) (here-is : val here ≡ slot ss parent .chain)
     (back-is : val back ≡ negated (val chain)) where
+  -- the negation of a number of 16 bits is exact
   back-exact : val back ≡ negℤ (val chain)
   back-exact = back-is ∙ negated-exact (val chain) (omega (arith, mag-abs (val chain)))
 
@@ -96,6 +98,7 @@ tied-is a child parent z ss {c} {ss₁} {ss₂} lt e₁ c-is e₂ e₃ =
 
 -- child and parent by the flag
 module _ (a : Axis) (flag i idx : ℕ) (exit entry : ℤ) (ss : List Slot) {m : ℤ} {ss₁ : List Slot} (between : m ≡ less entry exit) where
+  -- RIGHT_TO_LEFT set, and clear
   pub crossed-set : flag % 2 ≡ 1 → ss₁ ≡ tied a i idx m ss → ss₁ ≡ crossed a (rightToLeft flag) i idx exit entry ss
   crossed-set f e = simp (eq-eqb (flag % 2) 1 f) (e ∙ rw between)
 

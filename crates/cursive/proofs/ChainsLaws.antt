@@ -1,6 +1,6 @@
 -- Chains as code computes them. Assumes nothing.
 use mathlib.Core.Path.{_≡_, refl, sym, ap, _∙_}
-use mathlib.Core.Logic.{_⊎_, inl, inr, ⊎-elim}
+use mathlib.Core.Logic.{_⊎_, ⊎-elim}
 use Prim.Native.Nat.{ℕ, zero, suc, _+_, _-_, _<_, _≤_}
 use native.Mathlib.Nat.{eq-or-lt-of-le}
 use native.Mathlib.Omega.{arith}
@@ -21,22 +21,29 @@ reach-near z h = simp (lt-ltb (mag z) 32768 h)
 reach-far : (z : ℤ) → 32768 ≤ mag z → reach z ≡ pos 0
 reach-far z h = simp (le-ltb (mag z) 32768 h)
 
+-- a - b fits where a and b are near
+pub near-fits : (a b : ℕ) → a < b + 32768 → b ≤ a + 32768 → mag (diff a b) < 32768
+near-fits a b h k = by-sign (λ z. mag z < 32768) a b (λ l. omega arith) (λ l. omega arith)
+
 -- ---- the chain from a child to a parent
 module _ (child parent : ℕ) where
   -- n stands for the distance, which fits
   near : (n : ℕ) → val n ≡ diff parent child → parent < child + 32768 → child ≤ parent + 32768 → (val n ≡ chainTo child parent) × InBytes 2 (val n)
   near n e h k =
-      let m : mag (diff parent child) < 32768 = by-sign (λ z. mag z < 32768) parent child (λ l. omega arith) (λ l. omega arith) in
+      let m = near-fits parent child h k in
       (e ∙ sym (ap reach (sub-pos parent child) ∙ reach-near (diff parent child) m), rw e m)
 
+  -- the parent is the child itself or after it, and near
   pub chain-on : child ≤ parent → parent - child < 32768 → (val (parent - child) ≡ chainTo child parent) × InBytes 2 (val (parent - child))
   chain-on h k = near (parent - child) (signed-low 4 (parent - child) parent child (omega arith) (omega arith)) (omega arith) (omega arith)
 
+  -- the parent is before the child, and near
   pub chain-before : parent < child → child - parent ≤ 32768
       → (val (4294967296 - (child - parent)) ≡ chainTo child parent) × InBytes 2 (val (4294967296 - (child - parent)))
   chain-before h k =
       near (4294967296 - (child - parent)) (signed-high 4 (4294967296 - (child - parent)) parent child (omega arith) (omega arith)) (omega arith) (omega arith)
 
+  -- it is too far
   pub chain-far : (child + 32768 ≤ parent) ⊎ (parent + 32768 < child) → (val 0 ≡ chainTo child parent) × InBytes 2 (val 0)
   unfolding signed
   chain-far h =
@@ -56,6 +63,7 @@ pub back-least : (val 0 ≡ reach (negℤ (val 4294934528))) × InBytes 2 (val 0
 unfolding signed
 back-least = (refl, omega arith)
 
+-- any other number of 16 bits has
 neg-fits : (z : ℤ) → natAbs z ≤ 32768 → (z ≡ negsuc 32767 → ⊥) → mag (negℤ z) < 32768
 neg-fits (pos zero) h ne = omega arith
 neg-fits (pos (suc n)) h ne = omega arith
@@ -63,6 +71,7 @@ neg-fits (negsuc n) h ne =
     let le : n ≤ 32767 = omega arith in
     ⊎-elim (λ e. absurd (ne (ap negsuc e))) (λ l. omega arith) (eq-or-lt-of-le le)
 
+-- and code's negation of it does not saturate
 pub back-other : (v r : ℕ) → v < 4294967296 → (v ≡ 4294934528 → ⊥) → natAbs (val v) ≤ 32768 → val r ≡ negated (val v)
     → (val r ≡ reach (negℤ (val v))) × InBytes 2 (val r)
 unfolding pattern

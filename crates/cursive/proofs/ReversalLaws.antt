@@ -30,7 +30,7 @@ pub parent-free : (ss : List Slot) (i : ℕ) → slot ss i .chain ≡ pos 0 → 
 unfolding parent
 parent-free ss i e = ap (parentBy (length ss) i) e
 
--- and a slot without a parent has no chain
+-- and a slot without a parent has no chain: a place is never "no parent"
 placed-never : (n : ℕ) (z : ℤ) → placed n z ≡ None → ⊥
 placed-never n (negsuc k) e = let z : _≡_ {A = ℕ} 0 1 = cc in omega arith
 placed-never n (pos k) e = go (ltb k n) refl
@@ -39,6 +39,7 @@ placed-never n (pos k) e = go (ltb k n) refl
     go true t = let w : At k ≡ None = rw t at e in let z : _≡_ {A = ℕ} 0 1 = cc in omega arith
     go false t = let w : Outside ≡ None = rw t at e in let z : _≡_ {A = ℕ} 0 1 = cc in omega arith
 
+-- the same by the chain, and of a line
 by-none : (n i : ℕ) (z : ℤ) → parentBy n i z ≡ None → z ≡ pos 0
 by-none n i (pos zero) e = refl
 by-none n i (pos (suc c)) e = absurd (placed-never n (pos i +ℤ pos (suc c)) e)
@@ -48,49 +49,65 @@ pub free-chain : (ss : List Slot) (i : ℕ) → parent ss i ≡ None → slot ss
 unfolding parent
 free-chain ss i e = by-none (length ss) i (slot ss i .chain) e
 
--- a parent that has a place is in the line
-placed-in : (n : ℕ) (z : ℤ) (j : ℕ) → placed n z ≡ At j → j < n
-placed-in n (negsuc k) j e = let z : _≡_ {A = ℕ} 0 1 = cc in absurd (omega arith)
-placed-in n (pos k) j e = go (ltb k n) refl
+-- a parent that has a place: the place is in the line, and is the slot's number plus the chain
+placed-at : (n : ℕ) (z : ℤ) (j : ℕ) → placed n z ≡ At j → (j < n) × (z ≡ pos j)
+placed-at n (negsuc k) j e = let z : _≡_ {A = ℕ} 0 1 = cc in absurd (omega arith)
+placed-at n (pos k) j e = go (ltb k n) refl
   where
-    go : (t : Bool) → ltb k n ≡ t → j < n
+    go : (t : Bool) → ltb k n ≡ t → (j < n) × (pos k ≡ pos j)
     go true t =
-        let same : k ≡ j = let w : At k ≡ At j = rw t at e in cc in
-        omega (arith, ltb-true k n t)
+        let is : k ≡ j = let w : At k ≡ At j = rw t at e in cc in
+        (omega (arith, ltb-true k n t), ap pos is)
     go false t = let w : Outside ≡ At j = rw t at e in let z : _≡_ {A = ℕ} 0 1 = cc in absurd (omega arith)
 
-by-in : (n i : ℕ) (z : ℤ) (j : ℕ) → parentBy n i z ≡ At j → j < n
-by-in n i (pos zero) j e = let z : _≡_ {A = ℕ} 0 1 = cc in absurd (omega arith)
-by-in n i (pos (suc c)) j e = placed-in n (pos i +ℤ pos (suc c)) j e
-by-in n i (negsuc c) j e = placed-in n (pos i +ℤ negsuc c) j e
+-- the same by the chain, and of a line
+pub by-at : (n i : ℕ) (z : ℤ) (j : ℕ) → parentBy n i z ≡ At j → (j < n) × (pos i +ℤ z ≡ pos j)
+by-at n i (pos zero) j e = let z : _≡_ {A = ℕ} 0 1 = cc in absurd (omega arith)
+by-at n i (pos (suc c)) j e = placed-at n (pos i +ℤ pos (suc c)) j e
+by-at n i (negsuc c) j e = placed-at n (pos i +ℤ negsuc c) j e
 
 pub parent-in : (ss : List Slot) (i j : ℕ) → parent ss i ≡ At j → j < length ss
 unfolding parent
-parent-in ss i j e = by-in (length ss) i (slot ss i .chain) j e
+parent-in ss i j e = by-at (length ss) i (slot ss i .chain) j e .0
 
--- ---- the measure
-abs-zero : (z : ℤ) → natAbs z ≡ 0 → z ≡ pos 0
-abs-zero (pos n) e = ap pos e
-abs-zero (negsuc n) e = absurd (omega arith)
+-- ---- a slot cleared, and a parent hung onto its child
+module _ (ss : List Slot) (i : ℕ) where
+  pub cleared-same : i < length ss → slot (cleared ss i) i ≡ withChain (pos 0) (slot ss i)
+  unfolding cleared
+  cleared-same h = update-same i _ ss h
 
--- clearing a slot that has a parent leaves one attached slot less
-pub attached-clear : (ss : List Slot) (i : ℕ) → i < length ss → (parent ss i ≡ None → ⊥) → attachedCount ss ≡ suc (attachedCount (cleared ss i))
-unfolding attachedCount cleared
-attached-clear ss i lt ne = rw (length-update i (withChain (pos 0)) ss)
-    (tally-drop (isAttached ss) (isAttached (update i (withChain (pos 0)) ss)) (length ss) i lt
-    (ap not (ne-eqb (natAbs (slot ss i .chain)) 0 (λ e. ne (parent-free ss i (abs-zero (slot ss i .chain) e)))))
-    (ap (λ (s : Slot). not (eqb (natAbs (s .chain)) 0)) (update-same i (withChain (pos 0)) ss lt))
-    (λ k other. ap (λ (s : Slot). not (eqb (natAbs (s .chain)) 0)) (sym (update-other i (withChain (pos 0)) ss k other))))
+  pub cleared-other : (k : ℕ) → (k ≡ i → ⊥) → slot (cleared ss i) k ≡ slot ss k
+  unfolding cleared
+  cleared-other k ne = update-other i _ ss k ne
 
--- ---- the number of slots stays
-pub length-cleared : (ss : List Slot) (i : ℕ) → length (cleared ss i) ≡ length ss
-unfolding cleared
-length-cleared ss i = length-update i (withChain (pos 0)) ss
+  pub length-cleared : length (cleared ss i) ≡ length ss
+  unfolding cleared
+  length-cleared = length-update i _ ss
 
 pub length-turned : (a : Axis) (was : Slot) (ss : List Slot) (i j : ℕ) → length (turned a was ss i j) ≡ length ss
 unfolding turned
 length-turned a was ss i j = length-update j _ ss
 
+-- ---- the measure
+-- an integer of size 0 is 0
+abs-zero : (z : ℤ) → natAbs z ≡ 0 → z ≡ pos 0
+abs-zero (pos n) e = ap pos e
+abs-zero (negsuc n) e = absurd (omega arith)
+
+-- the slot has a chain
+abbrev chained : Slot → Bool
+chained s = not (eqb (natAbs (s .chain)) 0)
+
+-- clearing a slot that has a parent leaves one attached slot less
+pub attached-clear : (ss : List Slot) (i : ℕ) → i < length ss → (parent ss i ≡ None → ⊥) → attachedCount ss ≡ suc (attachedCount (cleared ss i))
+unfolding attachedCount
+attached-clear ss i lt ne = rw (length-cleared ss i)
+    (tally-drop (isAttached ss) (isAttached (cleared ss i)) (length ss) i lt
+    (ap not (ne-eqb (natAbs (slot ss i .chain)) 0 (λ e. ne (parent-free ss i (abs-zero (slot ss i .chain) e)))))
+    (ap chained (cleared-same ss i lt))
+    (λ k other. sym (ap chained (cleared-other ss i k other))))
+
+-- ---- the number of slots stays
 -- what holds on each way through a call holds
 ways : (P : List Slot → Type 0) (same clear : List Slot) (on : ℕ → List Slot) (p : ℕ) → P same → P clear → ((j : ℕ) → P (on j))
     → (t : Bool) (q : Parent) → P (if t then byParent q same clear (λ j. if eqb j p then clear else on j) else same)
@@ -116,6 +133,7 @@ unfolding reversed
 length-reversed a ss i p = length-reversedIn (attachedCount ss) a ss i p
 
 -- ---- the ways through
+-- a choice between two lines that are the same
 alike : (t : Bool) (ss : List Slot) → (if t then ss else ss) ≡ ss
 alike true ss = refl
 alike false ss = refl
@@ -140,6 +158,7 @@ module _ (a : Axis) (ss : List Slot) (i p : ℕ) where
       go (suc n) = rw e (alike (cursiveBit (slot ss i .attachType)) ss)
 
   module _ (lt : i < length ss) (bit : cursiveBit (slot ss i .attachType) ≡ true) where
+    -- a slot that has a parent has cleared a chain: there is fuel for one call more
     fuel : (q : Parent) → parent ss i ≡ q → (q ≡ None → ⊥) → attachedCount ss ≡ suc (attachedCount (cleared ss i))
     fuel q e ne = attached-clear ss i lt (λ n. ne (sym e ∙ n))
 
@@ -165,10 +184,12 @@ module _ (a : Axis) (ss : List Slot) (i p : ℕ) where
 
 -- ---- the same over code's variables
 module _ (a : Axis) (ss : List Slot) (i p : ℕ) {kind : ℕ} (is : kind ≡ slot ss i .attachType) where
+  -- no cursive bit: the line stays
   pub stays-plain : (kind / 2 % 2 ≡ 1 → ⊥) → ss ≡ reversed a ss i p
   stays-plain ne = sym (reversed-plain a ss i p (rw is at (ne-eqb (kind / 2 % 2) 1 ne)))
 
   module _ (lt : i < length ss) (one : kind / 2 % 2 ≡ 1) {ss₁ : List Slot} (clears : ss₁ ≡ update i (withChain (val 0)) ss) where
+    -- code's test is the bit, and code's 0 clears the chain
     bit : cursiveBit (slot ss i .attachType) ≡ true
     bit = rw is at (eq-eqb (kind / 2 % 2) 1 one)
 
@@ -176,6 +197,7 @@ module _ (a : Axis) (ss : List Slot) (i p : ℕ) {kind : ℕ} (is : kind ≡ slo
     unfolding cleared signed
     is-cleared = clears
 
+    -- the parent is outside the line, or the new parent: the line with the chain cleared is the answer
     pub ends-outside : parent ss i ≡ Outside → ss₁ ≡ reversed a ss i p
     ends-outside e = is-cleared ∙ sym (reversed-outside a ss i p lt bit e)
 
@@ -186,6 +208,7 @@ module _ (a : Axis) (ss : List Slot) (i p : ℕ) {kind : ℕ} (is : kind ≡ slo
     pub falls-at : (j : ℕ) → parent ss i ≡ At j → attachedCount ss ≡ suc (attachedCount ss₁)
     falls-at j e = rw is-cleared (fuel-at a ss i p lt bit j e)
 
+    -- else: recursion, and the parent hung with what was read after it
     pub goes-on : (j : ℕ) → parent ss i ≡ At j → (j ≡ p → ⊥) → {ss₂ ss₃ : List Slot} {chain off neg back : ℤ} → chain ≡ slot ss i .chain
         → ss₂ ≡ reversed a ss₁ j p → off ≡ offset a (slot ss₂ i) → neg ≡ negated off → back ≡ reach (negℤ chain)
         → ss₃ ≡ update j (λ s. attached kind back (withMeasure Offset a neg s)) ss₂ → ss₃ ≡ reversed a ss i p

@@ -1,25 +1,24 @@
 -- Reversal of a sound chain: its slots hang the other way round, and no other slot changes. Assumes nothing.
-use mathlib.Core.Bool.{true, false}
+use mathlib.Core.Bool.{true}
 use mathlib.Core.List.{List, [], _∷_}
 use mathlib.Core.Path.{_≡_, refl, sym, ap, ap₂, _∙_}
-use Prim.Native.Nat.{ℕ, zero, suc, _<_, _≤_}
-use native.Mathlib.Omega.{arith}
-use lib.IntN.{ℤ, pos, negsuc, negℤ}
+use Prim.Native.Nat.{ℕ, _<_, _≤_}
+use lib.IntN.{ℤ, pos, negℤ}
 use lib.ListN.{length}
 use Rattle.ints.specs.Saturating.{negated}
 use Rattle.slots.specs.Slot.{Slot}
-use Rattle.slots.specs.Line.{slot, update}
+use Rattle.slots.specs.Line.{slot}
 use Rattle.slots.specs.Fields.{attached, offset, withChain, withMeasure}
-use Rattle.slots.specs.Parent.{parent, parentBy}
+use Rattle.slots.specs.Parent.{parent}
 use Rattle.slots.specs.declared.axis.Axis.{Axis}
 use Rattle.slots.specs.declared.axis.Axis.the-variants.{X, Y}
 use Rattle.slots.specs.declared.fields.Measure.the-variants.{Offset}
 use Rattle.slots.specs.declared.parent.Parent.the-variants.{None, At}
-use Rattle.slots.proofs.LineLaws.{length-update, update-other, update-same}
+use Rattle.slots.proofs.LineLaws.{update-other, update-same}
 use Rattle.cursive.specs.Chains.{cleared, cursiveBit, reach}
 use Rattle.cursive.specs.Reversal.{reversed, turned}
 use Rattle.cursive.proofs.BackLaws.{leads-back}
-use Rattle.cursive.proofs.ReversalLaws.{free-chain, length-cleared, length-turned, parent-in, reversed-free, reversed-on}
+use Rattle.cursive.proofs.ReversalLaws.{cleared-other, cleared-same, free-chain, length-cleared, length-turned, parent-in, reversed-free, reversed-on}
 
 -- ---- what is asked
 -- slot i hangs on slot j by a type that reversal follows
@@ -64,6 +63,7 @@ abbrev pub Backwards : List Slot → ℕ → List ℕ → Type 0
 Backwards r i [] = Unit {0}
 Backwards r i (j ∷ js) = (parent r j ≡ At i) × Backwards r j js
 
+-- from ss to r, the chain from slot i over the slots js is reversed
 pub record Reversed (a : Axis) (ss : List Slot) (i : ℕ) (js : List ℕ) (r : List Slot) : Type 0 where
   -- the line has as many slots as before
   pub count-kept : length r ≡ length ss
@@ -78,35 +78,31 @@ pub record Reversed (a : Axis) (ss : List Slot) (i : ℕ) (js : List ℕ) (r : L
 
 -- ---- clearing slot i leaves the rest of the chain
 module _ (ss : List Slot) (i : ℕ) where
-  cleared-same : i < length ss → slot (cleared ss i) i ≡ withChain (pos 0) (slot ss i)
-  unfolding cleared
-  cleared-same h = update-same i (withChain (pos 0)) ss h
-
-  cleared-other : (k : ℕ) → (k ≡ i → ⊥) → slot (cleared ss i) k ≡ slot ss k
-  unfolding cleared
-  cleared-other k ne = update-other i (withChain (pos 0)) ss k ne
-
+  -- other slots hang as they did
   parent-kept : (k : ℕ) → (k ≡ i → ⊥) → parent (cleared ss i) k ≡ parent ss k
   unfolding parent
-  parent-kept k ne = rw (length-cleared ss i, cleared-other k ne)
+  parent-kept k ne = rw (length-cleared ss i, cleared-other ss i k ne)
 
+  -- and so does a chain that slot i is not on
   chain-kept : (j : ℕ) (js : List ℕ) → Apart i (j ∷ js) → Chain ss j js → Chain (cleared ss i) j js
   chain-kept j [] out free = parent-kept j (λ e. out .0 (sym e)) ∙ free
   chain-kept j (k ∷ js) out on =
       let ne : j ≡ i → ⊥ = λ e. out .0 (sym e) in (
         record {
           in-line = rw (length-cleared ss i) (on .0 .in-line);
-          cursive = rw (cleared-other j ne) (on .0 .cursive);
+          cursive = rw (cleared-other ss i j ne) (on .0 .cursive);
           hangs-on = parent-kept j ne ∙ on .0 .hangs-on;
         },
         chain-kept k js (out .1) (on .1),
       )
 
--- ---- what a chain that is changed leaves of offset and slot
+-- ---- a slot whose chain is changed
+-- keeps its offset
 offset-kept : (a : Axis) (c : ℤ) (s : Slot) → offset a (withChain c s) ≡ offset a s
 offset-kept X c s = refl
 offset-kept Y c s = refl
 
+-- and is the same once it is hung
 hung-again : (a : Axis) (t : ℕ) (c d z : ℤ) (s : Slot) → _≡_ {A = Slot} (attached t c (withMeasure Offset a z (withChain d s))) (attached t c (withMeasure Offset a z s))
 hung-again X t c d z s = refl
 hung-again Y t c d z s = refl
@@ -123,9 +119,11 @@ hang-back a ss r n short i (j ∷ js) chain apart w = (
 -- ---- one slot more: r is the line with slot i cleared and the chain from j on reversed
 module _ (a : Axis) (ss : List Slot) (i j : ℕ) (js : List ℕ) (r : List Slot) (chain : Chain ss i (j ∷ js)) (apart : Distinct (i ∷ j ∷ js))
     (rest : Reversed a (cleared ss i) j js r) where
+  -- the whole line afterwards
   abbrev on : List Slot
   on = turned a (slot ss i) r i j
 
+  -- it has as many slots
   length-on : length on ≡ length ss
   length-on = length-turned a (slot ss i) r i j ∙ rest .count-kept ∙ length-cleared ss i
 
@@ -133,10 +131,12 @@ module _ (a : Axis) (ss : List Slot) (i j : ℕ) (js : List ℕ) (r : List Slot)
   child-after : slot r i ≡ withChain (pos 0) (slot ss i)
   child-after = rest .others-kept i (apart .0) ∙ cleared-same ss i (chain .0 .in-line)
 
+  -- it differs from r in slot j alone
   on-other : (k : ℕ) → (k ≡ j → ⊥) → slot on k ≡ slot r k
   unfolding turned
   on-other k ne = update-other j _ r k ne
 
+  -- which hangs onto slot i
   on-parent : slot on j ≡ hungOnto a (slot ss i) (slot ss j)
   unfolding turned
   on-parent =
@@ -144,6 +144,7 @@ module _ (a : Axis) (ss : List Slot) (i j : ℕ) (js : List ℕ) (r : List Slot)
       update-same j _ r in-line
       ∙ rw (child-after, offset-kept a (pos 0) (slot ss i), rest .first-freed, cleared-other ss i j (λ e. apart .0 .0 (sym e)), hung-again a (slot ss i .attachType))
 
+  -- while the rest stays turned
   on-rest : (c : ℕ) (ks : List ℕ) → Apart i (c ∷ ks) → Apart j ks → AllTurned a (cleared ss i) r c ks → AllTurned a ss on c ks
   on-rest c [] ni nj w = tt
   on-rest c (k ∷ ks) ni nj w = (
@@ -151,6 +152,7 @@ module _ (a : Axis) (ss : List Slot) (i j : ℕ) (js : List ℕ) (r : List Slot)
     on-rest k ks (ni .1) (nj .1) (w .1),
   )
 
+  -- so the chain with one slot more is reversed
   step : Reversed a ss i (j ∷ js) on
   step =
       let w : AllTurned a ss on i (j ∷ js) = (on-parent, on-rest j js (apart .0) (apart .1 .0) (rest .parents-turned)) in

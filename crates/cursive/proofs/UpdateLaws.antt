@@ -10,7 +10,7 @@ use Rattle.slots.specs.Fields.{attached, withByte, withChain, withMeasure}
 use Rattle.slots.specs.declared.axis.Axis.{Axis}
 use Rattle.slots.specs.declared.fields.ByteField.the-variants.{AttachType}
 use Rattle.slots.specs.declared.fields.Measure.the-variants.{Offset}
-use Rattle.slots.proofs.LineLaws.{length-update, update-twice}
+use Rattle.slots.proofs.LineLaws.{update-twice}
 
 module _ (i : ℕ) (ss : List Slot) where
   -- two changes that agree on the slot are the same

@@ -1,10 +1,11 @@
 -- Worked values: the sums of document 01 that concern marks, and what is easy to get wrong, at lines and a subtable that are written out. They compute.
 -- Assumes nothing.
 use mathlib.Core.Path.{_≡_, refl}
-use mathlib.Core.Bool.{Bool, true, false}
+use mathlib.Core.Bool.{true, false}
 use mathlib.Core.List.{List, [], _∷_, map}
-use mathlib.Core.Option.{Option, some, none}
+use mathlib.Core.Option.{some, none}
 use Prim.Native.Nat.{ℕ, _/_, _%_}
+use native.Mathlib.Omega.{arith}
 use lib.Dec.{eqb}
 use lib.IntN.{ℤ, pos, negsuc}
 use Rattle.ints.specs.BigEndian.{natAt}
@@ -21,10 +22,11 @@ use Rattle.tables.specs.Spans.{ascends, firstHolding, spanAt, spansFrom}
 use Rattle.answers.specs.Said.{break, concat, applied, declined, refused}
 use Rattle.marks.specs.Attachment.{planned}
 use Rattle.marks.specs.MarkPos.{anchorsFor, baseIndex, componentIndex, markIndex, marksGood}
-use Rattle.marks.specs.Plan.{Plan, stop, endless, hang, planOf, planSaid}
+use Rattle.marks.specs.Plan.{stop, endless, hang, planOf, planSaid}
 use Rattle.marks.specs.Search.{accepted, nearest, stopsAt}
-use Rattle.marks.specs.Walk.{crossWalk, walkIn}
+use Rattle.marks.specs.Walk.{crossWalk, NeverEnds, walkIn}
 use Rattle.marks.specs.declared.subtable.Kind.the-variants.{Base, Ligature}
+use Rattle.marks.proofs.WalkLaws.{refused-never}
 
 -- the bytes of a table, from its numbers of 16 bits
 abbrev words : List ℕ → List ℕ
@@ -87,6 +89,8 @@ pub record Worked : Type 0 where
   pub no-ids : componentIndex 3 (part 0 2) (part 0 0) ≡ 2
   -- the loop: the walk of slot 1 never ends, on either axis; that of the mark ends at once
   pub endless-walk : (crossWalk Y loop 1 ≡ none) × (crossWalk X loop 1 ≡ none) × (crossWalk Y loop 2 ≡ some (pos 0))
+  -- and so, by the law of the walk, for every number of steps it has not ended
+  pub never : NeverEnds loop 1
   -- two hops, by the cursive bit of types 2 and 3: it saturates step by step, from the slot outward
   pub two-hops : map (crossWalk Y hops) (0 ∷ 1 ∷ 2 ∷ []) ≡ (some (negsuc 4) ∷ some (negsuc 3) ∷ some (pos 2147483642) ∷ [])
   -- a parent outside the line ends it
@@ -123,6 +127,7 @@ worked = record {
   other-ids = refl;
   no-ids = refl;
   endless-walk = (refl, refl, refl);
+  never = refused-never loop Y 1 (omega arith) refl;
   two-hops = refl;
   outside = (refl, refl);
   nearest-is = refl;

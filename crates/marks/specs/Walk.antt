@@ -16,7 +16,7 @@ use Rattle.slots.specs.Fields.{offset}
 use Rattle.slots.specs.Parent.{byParent, parent}
 use Rattle.slots.specs.declared.axis.Axis.{Axis}
 use Rattle.slots.specs.declared.parent.Parent.{Parent}
-use Rattle.slots.specs.declared.parent.Parent.the-variants.{None, Outside, At}
+use Rattle.slots.specs.declared.parent.Parent.the-variants.{None}
 
 -- the type has the cursive bit
 abbrev pub cursiveBit : ℕ → Bool

@@ -1,5 +1,5 @@
 -- Laws of applying: what the two records make of a line, and a plan's effect. Assumes nothing.
-use mathlib.Core.Path.{_≡_, refl, sym, ap, _∙_}
+use mathlib.Core.Path.{_≡_, refl, sym, ap, ap₂, _∙_}
 use mathlib.Core.Bool.{Bool, true, false, _||_}
 use mathlib.Core.List.{List}
 use Prim.Native.Nat.{ℕ, _+_}
@@ -51,8 +51,14 @@ module _ (s u : ℕ) (d : Direction) (t : List ℕ) (idx : ℕ) (ss : List Slot)
   after w true second new = refl
   after w false second new = refl
 
-  pub adjusts : (table : List ℕ) (at second : ℕ) → adjust table at second ≡ plan → (given : Said) (w more : Bool) (ss′ : List Slot)
-      → given ≡ pairSaid w more idx second → w ≡ eitherWorked d t table at → more ≡ hasSecond t → ss′ ≡ planned s u d t idx (adjust table at second) ss
+  -- code has the table as a part of the subtable
+  pub adjusts : (table part : List ℕ) (at second : ℕ) → adjust table at second ≡ plan → part ≡ table → (given : Said) (w more : Bool) (ss′ : List Slot)
+      → given ≡ pairSaid w more idx second → w ≡ eitherWorked d t part at → more ≡ hasSecond t → ss′ ≡ planned s u d t idx (adjust part at second) ss
       → Effect ss (planSaid d t idx plan) (planned s u d t idx plan ss) given ss′
-  adjusts table at second e given w more ss′ a p q n =
-      rw (← e, ← p, ← q) record { answer = a; slots-are = n ∙ sym (after w more second (planned s u d t idx (adjust table at second) ss)) }
+  adjusts table part at second e same given w more ss′ a p q n =
+      rw (← e) record {
+        answer = a ∙ ap₂ (λ (x y : Bool). pairSaid x y idx second) (p ∙ ap (λ (l : List ℕ). eitherWorked d t l at) same) q;
+        slots-are =
+            n ∙ ap (λ (l : List ℕ). planned s u d t idx (adjust l at second) ss) same
+            ∙ sym (after (eitherWorked d t table at) (hasSecond t) second (planned s u d t idx (adjust table at second) ss));
+      }

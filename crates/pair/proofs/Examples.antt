@@ -30,7 +30,7 @@ words [] = []
 words (n ∷ ns) = n / 256 ∷ n % 256 ∷ words ns
 
 -- ---- subtables
--- format 1, by the two value formats, that covers the glyph 5 and whose one pair set is this; and its pair set's offset
+-- format 1, by its two value formats: the glyph 5 is covered, the offset of its pair set is `off`, and this pair set stands at byte 18
 abbrev covering : ℕ → ℕ → ℕ → List ℕ → List ℕ
 covering f₁ f₂ off set = words (1 ∷ 12 ∷ f₁ ∷ f₂ ∷ 1 ∷ off ∷ 1 ∷ 1 ∷ 5 ∷ set)
 

@@ -1,9 +1,9 @@
 -- What the probe means: in a pair set that is whole and ascends, by halves one finds what the plain reading finds. Assumes nothing.
-use mathlib.Core.Path.{_≡_, refl, sym, subst}
+use mathlib.Core.Path.{_≡_, refl, sym, ap, subst, _∙_}
 use mathlib.Core.Logic.{_⊎_, inl, inr, ⊎-elim}
 use mathlib.Core.Bool.{true}
 use mathlib.Core.List.{List}
-use mathlib.Core.Option.{some, none}
+use mathlib.Core.Option.{Option, some, none}
 use Prim.Native.Nat.{ℕ, zero, suc, _+_, _*_, _≤_, _<_}
 use native.Mathlib.Decide.{decLe}
 use native.Mathlib.Nat.{add-zero, eq-or-lt-of-le, lt-of-not-le}
@@ -14,6 +14,8 @@ use borrow.Author.Tests.{eq-eqb, leb-true, ne-eqb}
 use Rattle.ints.specs.BigEndian.{natAt}
 use Rattle.tables.proofs.SpansLaws.{and-right, row-in}
 use Rattle.pair.specs.PairSet.{Ascending, firstWith, foundAt, middle, plain, probe, probeIn, recordAt, secondGlyph, whole}
+use Rattle.pair.specs.declared.pair_set.Probe.{Probe}
+use Rattle.pair.specs.declared.pair_set.Probe.the-variants.{Found, Nothing}
 use Rattle.pair.proofs.PairSetLaws.{probe-down, probe-hit, probe-over, probe-up}
 
 -- one number is below another, or not
@@ -23,6 +25,15 @@ side a b = go (decLe b a)
     go : Dec (b ≤ a) → (a < b) ⊎ (b ≤ a)
     go (yes h) = inr h
     go (no h) = inl (lt-of-not-le h)
+
+-- the probe's answer to what the plain reading finds, and back
+abbrev pub told : Option ℕ → Probe
+told (some at) = Found at
+told none = Nothing
+
+told-back : (o : Option ℕ) → foundAt (told o) ≡ o
+told-back (some at) = refl
+told-back none = refl
 
 module _ (set : List ℕ) (size g : ℕ) where
   -- ---- the plain reading of the n records from k on: record k + j is the first that has the glyph, or none has it
@@ -76,21 +87,21 @@ module _ (set : List ℕ) (size g : ℕ) where
         }
 
     -- nothing is left in between
-    nowhere : (lo hi : ℕ) → Between n lo hi → hi ≤ lo → none ≡ firstWith set size g 0 n
+    nowhere : (lo hi : ℕ) → Between n lo hi → hi ≤ lo → Nothing ≡ told (firstWith set size g 0 n)
     nowhere lo hi b h =
-        sym (first-none n 0 (λ i p q e.
+        sym (ap told (first-none n 0 (λ i p q e.
         ⊎-elim (λ (w : i < hi). omega (arith, b .below i (omega arith))) (λ (w : hi ≤ i). omega (arith, b .above i w (omega arith)))
-        (side i hi)))
+        (side i hi))))
 
     -- record m has the glyph
-    here : (m : ℕ) → m < n → secondGlyph set size m ≤ g → g ≤ secondGlyph set size m → some (recordAt size m) ≡ firstWith set size g 0 n
+    here : (m : ℕ) → m < n → secondGlyph set size m ≤ g → g ≤ secondGlyph set size m → Found (recordAt size m) ≡ told (firstWith set size g 0 n)
     here m h a b =
         let z : 0 + m ≡ m = omega arith in
         let e : secondGlyph set size (0 + m) ≡ g = rw z (omega arith) in
-        sym (rw z at (first-at n 0 m h (λ i p q w. omega (arith, up i m (omega arith) h)) e))
+        sym (ap told (rw z at (first-at n 0 m h (λ i p q w. omega (arith, up i m (omega arith) h)) e)))
 
     means : 2 + size * n ≤ length set → 2 ≤ size → (steps lo hi : ℕ) → hi ≤ lo + steps → Between n lo hi
-        → foundAt (probeIn steps set size g lo hi) ≡ firstWith set size g 0 n
+        → probeIn steps set size g lo hi ≡ told (firstWith set size g 0 n)
     means fits wide zero lo hi h b = rw (probe-over set size g zero lo hi (omega arith)) (nowhere lo hi b (omega arith))
     means fits wide (suc k) lo hi h b = ⊎-elim
         (λ (l : lo < hi).
@@ -111,9 +122,13 @@ module _ (set : List ℕ) (size g : ℕ) where
         (λ (l : hi ≤ lo). rw (probe-over set size g (suc k) lo hi l) (nowhere lo hi b l))
         (side lo hi)
 
-  -- a record has its second glyph at the least, so its size is 2 or more
-  pub probe-means : 2 ≤ size → whole set size ≡ true → Ascending set size → foundAt (probe set size g) ≡ plain set size g
-  probe-means wide e up =
+  -- a record has its second glyph at the least, so its size is 2 or more; the probe isn't cut
+  pub probe-told : 2 ≤ size → whole set size ≡ true → Ascending set size → probe set size g ≡ told (plain set size g)
+  probe-told wide e up =
       let n = natAt 2 set 0 in
       means n up (leb-true (2 + size * n) (length set) (and-right (leb 2 (length set)) _ e)) wide n 0 n (omega arith)
       record { hi-le = omega arith; below = λ k h. absurd (omega arith); above = λ k h l. absurd (omega arith) }
+
+  -- it finds what the plain reading finds
+  pub probe-means : 2 ≤ size → whole set size ≡ true → Ascending set size → foundAt (probe set size g) ≡ plain set size g
+  probe-means wide e up = ap foundAt (probe-told wide e up) ∙ told-back (plain set size g)

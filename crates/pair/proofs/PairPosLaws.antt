@@ -63,7 +63,7 @@ good t e =
       classes2 = λ n. and-right (classGoodAt t (natAt 2 t 8)) _ (lists n);
     }
 
--- ---- the check of the header, by what code reads as the format
+-- ---- the check of the header: cut, format 1, format 2, a format that is unknown
 module _ (t : List ℕ) where
   pub header-cut : length t < 10 → false ≡ headerGood t
   unfolding headerGood
@@ -81,7 +81,7 @@ module _ (t : List ℕ) where
   unfolding headerGood
   header-unknown h n m = simp (le-leb 10 (length t) h, ne-eqb (posFormat t) 1 n, ne-eqb (posFormat t) 2 m)
 
-  -- ---- the check of the class lists: a is the answer for the first
+  -- ---- the check of the class lists: none in format 1, both good, the first bad
   pub classes-none : posFormat t ≡ 1 → true ≡ classesGood t
   unfolding classesGood
   classes-none e = simp (eq-eqb (posFormat t) 1 e)

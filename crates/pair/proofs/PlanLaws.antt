@@ -1,7 +1,7 @@
 -- Laws of the plan: one equation for each way through the code that finds a pair's record. Assumes nothing.
-use mathlib.Core.Path.{_≡_, refl, sym, ap, _∙_}
+use mathlib.Core.Path.{_≡_, sym, ap, _∙_}
 use mathlib.Core.Bool.{Bool, true, false}
-use mathlib.Core.List.{List, []}
+use mathlib.Core.List.{List, [], _∷_}
 use Prim.Native.Nat.{ℕ, _+_, _*_, _≤_, _<_}
 use native.Mathlib.Nat.{le-of-lt, mul-le-mul}
 use native.Mathlib.Omega.{arith}
@@ -15,10 +15,13 @@ use Rattle.slots.specs.Line.{slot}
 use Rattle.tables.specs.ClassDef.{classAt}
 use Rattle.tables.specs.Part.{tableAt}
 use Rattle.tables.specs.declared.coverage.Covered.{Covered}
+use Rattle.tables.specs.declared.coverage.Covered.the-variants.{At, Not}
+use Rattle.answers.specs.Said.{Range, concat}
 use Rattle.answers.specs.declared.Neighbour.{Neighbour}
+use Rattle.answers.specs.declared.Neighbour.the-variants.{At as Named, Missing}
 use Rattle.pair.specs.PairPos.{firstClasses, firstIndex, pairLength, pairSet, posFormat, secondClasses}
 use Rattle.pair.specs.PairSet.{probe}
-use Rattle.pair.specs.Plan.{adjust, fromClasses, fromCovered, fromProbe, fromSecond, fromSet, missed, planOf, stop}
+use Rattle.pair.specs.Plan.{Plan, adjust, fromClasses, fromCovered, fromNeighbour, fromProbe, fromSecond, fromSet, missed, planOf, stop}
 use Rattle.pair.specs.declared.pair_set.Probe.{Probe}
 
 -- ---- the offset of pair set k, of the n that the header counts: past the count, cut, there
@@ -50,9 +53,9 @@ module _ (t : List ℕ) (idx second g off k : ℕ) (set : List ℕ) (e : set ≡
   short-set h = rw (← s, ← e) (simp (lt-ltb (length set) 2 h))
 
   pub probed-set : 2 ≤ length set → (size : ℕ) → size ≡ pairLength t → (found : Probe) → found ≡ probe set (2 + size) g
-      → fromProbe idx second (drop off t) found ≡ fromSet t idx second g (pairSet t k)
-  probed-set h size w found f =
-      ap (λ (l : List ℕ). fromProbe idx second l found) (sym (set-part t off set e h))
+      → (p : Plan) → p ≡ fromProbe idx second (drop off t) found → p ≡ fromSet t idx second g (pairSet t k)
+  probed-set h size w found f p q =
+      q ∙ ap (λ (l : List ℕ). fromProbe idx second l found) (sym (set-part t off set e h))
       ∙ ap (fromProbe idx second set) (f ∙ ap (λ (n : ℕ). probe set (2 + n) g) w)
       ∙ sym (rw (← s, ← e) (simp (le-ltb (length set) 2 h)))
 
@@ -80,20 +83,33 @@ classes-small c n h l = mul-le-mul (le-of-lt h) (le-of-lt l)
 pub place-small : (size k : ℕ) → size ≤ 32 → k ≤ 4295032832 → size * k ≤ 137441050624
 place-small size k h l = mul-le-mul h l
 
--- ---- the two formats
-module _ (t : List ℕ) (ss : List Slot) (idx k second : ℕ) where
+-- ---- the two formats; p is the plan that code has
+module _ (t : List ℕ) (ss : List Slot) (idx k second : ℕ) (p : Plan) where
   pub by-set : (format g : ℕ) → format ≡ posFormat t → format ≡ 1 → g ≡ slot ss second .glyph
-      → fromSet t idx second g (pairSet t k) ≡ fromSecond t ss idx k second
-  by-set format g f one e = rw (← e) (simp (eq-eqb (posFormat t) 1 (sym f ∙ one)))
+      → p ≡ fromSet t idx second g (pairSet t k) → p ≡ fromSecond t ss idx k second
+  by-set format g f one e q = q ∙ rw (← e) (simp (eq-eqb (posFormat t) 1 (sym f ∙ one)))
 
   pub by-classes : (posFormat t ≡ 1 → ⊥) → (g₁ g₂ o₁ o₂ c₁ c₂ : ℕ) → g₁ ≡ slot ss idx .glyph → g₂ ≡ slot ss second .glyph
       → o₁ ≡ natAt 2 t 8 → o₂ ≡ natAt 2 t 10 → c₁ ≡ classAt t o₁ g₁ → c₂ ≡ classAt t o₂ g₂
-      → fromClasses t idx second c₁ c₂ ≡ fromSecond t ss idx k second
-  by-classes two g₁ g₂ o₁ o₂ c₁ c₂ a b p q u v =
-      rw (ne-eqb (posFormat t) 1 two, ← a, ← b, ← p, ← q, ← u, ← v) refl
+      → p ≡ fromClasses t idx second c₁ c₂ → p ≡ fromSecond t ss idx k second
+  by-classes two g₁ g₂ o₁ o₂ c₁ c₂ a b x y u v q = rw (ne-eqb (posFormat t) 1 two, ← a, ← b, ← x, ← y, ← u, ← v) q
 
--- ---- coverage comes first
-module _ (t : List ℕ) (ss : List Slot) (idx : ℕ) (n : Neighbour) (g : ℕ) (e : g ≡ slot ss idx .glyph) where
-  pub by-coverage : (r : Covered) → r ≡ firstIndex t g → fromCovered t ss idx n r ≡ planOf t ss idx n
+-- ---- the neighbour that is named, and the one that is missing
+module _ (t : List ℕ) (ss : List Slot) (idx k : ℕ) (n : Neighbour) where
+  pub by-named : (second : ℕ) → n ≡ Named second → (p : Plan) → p ≡ fromSecond t ss idx k second → p ≡ fromNeighbour t ss idx k n
+  by-named second e p q = rw e q
+
+  pub by-missing : (e : ℕ) → n ≡ Missing e → (hazards : List Range) → hazards ≡ concat idx e ∷ [] → stop hazards ≡ fromNeighbour t ss idx k n
+  by-missing e m hazards q = rw m (ap stop q)
+
+-- ---- coverage comes first: r is what was found
+module _ (t : List ℕ) (ss : List Slot) (idx : ℕ) (n : Neighbour) (g : ℕ) (r : Covered) (e : g ≡ slot ss idx .glyph) (i : r ≡ firstIndex t g) where
+  by-coverage : fromCovered t ss idx n r ≡ planOf t ss idx n
   unfolding planOf
-  by-coverage r i = ap (fromCovered t ss idx n) (i ∙ ap (firstIndex t) e)
+  by-coverage = ap (fromCovered t ss idx n) (i ∙ ap (firstIndex t) e)
+
+  pub covered : (k : ℕ) → r ≡ At k → (p : Plan) → p ≡ fromNeighbour t ss idx k n → p ≡ planOf t ss idx n
+  covered k c p q = q ∙ sym (ap (fromCovered t ss idx n) c) ∙ by-coverage
+
+  pub uncovered : r ≡ Not → stop [] ≡ planOf t ss idx n
+  uncovered c = sym (ap (fromCovered t ss idx n) c) ∙ by-coverage

@@ -1,9 +1,5 @@
 -- `cursive::chains::chain_back` meets its contract: of 16 bits only the least number has no negation, and no other saturates. Assumes nothing.
-use mathlib.Core.Path.{subst, sym}
 use native.Mathlib.Omega.{arith}
-use Prim.Native.Nat.{ℕ}
-use Rattle.ints.specs.Signed.{InBytes, val}
-use Rattle.cursive.specs.Chains.{reach}
 use Rattle.cursive.proofs.ChainsLaws.{back-least, back-other}
 use borrow.Author.Needs.{needs}
 use Rattle.cursive.proofs.chains.chain_back.Statement.{statement}

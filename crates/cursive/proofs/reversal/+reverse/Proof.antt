@@ -29,15 +29,18 @@ use Rattle.slots.proofs.parent.parent_of.Reads as parent-of-reads
 use Rattle.cursive.proofs.reversal.+reverse.{statement}
 use Rattle.cursive.proofs.reversal.+reverse.Tie.{close}
 
+-- the measure: how many slots are attached
 abbrev μ-reverse : Measures 1 reverse-kinds.ps ℕ
 μ-reverse κs a = attachedCount (slots (a .0 .now))
 
+-- what a call may assume, and what it owes to the call inside it: a smaller measure
 abbrev reverse-at : ℕ → In 1 reverse-kinds.ps
 reverse-at t = and 1 reverse-kinds.ps (is 1 reverse-kinds.ps μ-reverse t) reverse.Pre
 
 abbrev reverse-below : ℕ → In 1 reverse-kinds.ps
 reverse-below t = and 1 reverse-kinds.ps (falls 1 reverse-kinds.ps _<_ μ-reverse t) reverse.Pre
 
+-- what the callees ask and tell
 abbrev calls : ℕ → reverse-lts.Claims
 calls t = (
   get-byte-reads.Asked,
@@ -60,7 +63,7 @@ calls t = (
   hang-reads.Learnt,
 )
 
--- the place where the parent is known to be a slot of the line, and what is known there
+-- ---- what is known where the parent is a slot of the line
 abbrev Known : ℕ → Type 0
 Known t = reverse-lts.After-known-told (calls t) (reverse-at t) reverse.Post
 
@@ -74,17 +77,21 @@ start t k = k .before .before .before .before .before .before .before .before .b
 abbrev to : (t : ℕ) → Known t → ℕ
 to t k = k .before .parent .given .0 .0
 
+-- slot i is in the line
 here : (t : ℕ) (k : Known t) → start t k .args .i < length (slots (now (start t k .args .line)))
 here t k = omega (arith, length-slots (now (start t k .args .line)), start t k .pre .1)
 
+-- the parent that was found
 parent-is : (t : ℕ) (k : Known t) → parent (slots (now (start t k .args .line))) (start t k .args .i) ≡ At (to t k)
 parent-is t k = sym (k .before .before .before .parent-of .ensures) ∙ k .before .parent .given .1
 
+-- and so is its parent
 there : (t : ℕ) (k : Known t) → to t k < count (now (start t k .args .line))
 there t k =
     let l = now (start t k .args .line) in
     omega (arith, length-slots l, parent-in (slots l) (start t k .args .i) (to t k) (parent-is t k))
 
+-- the type that was read is the slot's, and has the cursive bit
 kind-is : (t : ℕ) (k : Known t) → k .before .before .before .before .before .before .get-byte .result ≡ slot (slots (now (start t k .args .line))) (start t k .args .i) .attachType
 kind-is t k = k .before .before .before .before .before .before .get-byte .ensures
 

@@ -2,19 +2,17 @@
 -- subtable are applied. Assumes nothing.
 use mathlib.Core.Path.{sym, ap, subst, _∙_}
 use mathlib.Core.Bool.{not}
-use mathlib.Core.List.{List}
-use Prim.Native.Nat.{ℕ}
+use Prim.Native.Nat.{ℕ, _-_}
 use native.Mathlib.Omega.{arith}
+use lib.Dec.{eqb}
+use lib.ListN.{drop, length, take}
 use borrow.Author.Needs.{needs}
 use denote.Ref.{now}
-use lib.Dec.{eqb}
-use lib.ListN.{drop}
 use Rattle.slots.specs.Line.{count, slots}
 use Rattle.tables.proofs.PartLaws.{to-end}
 use Rattle.answers.specs.Said.{ranges, said}
-use Rattle.pair.specs.Adjustment.{eitherWorked, planned}
 use Rattle.pair.specs.Codes.{meant, Sound}
-use Rattle.pair.specs.Plan.{adjust, planOf}
+use Rattle.pair.specs.Plan.{planOf}
 use Rattle.pair.specs.declared.decision.Decision.the-variants.{Adjust}
 use Rattle.pair.proofs.AdjustmentLaws.{adjusts, declines}
 use Rattle.pair.proofs.PairPosLaws.{good}
@@ -90,13 +88,13 @@ returns-2 c =
     let off = m .decision2 .given .0 .0 in
     let at = m .decision2 .given .0 .1 .0 in
     let second = m .decision2 .given .0 .1 .1 .0 in
-    adjusts (a .s) (a .u) (a .d) t (a .idx) ss (planOf t ss (a .idx) (a .neighbour)) (drop off t) at second
-    (sym (ap (meant t) (m .decision2 .given .1)) ∙ k .decide .ensures .0)
+    adjusts (a .s) (a .u) (a .d) t (a .idx) ss (planOf t ss (a .idx) (a .neighbour)) (drop off t) (take (length t - off) (drop off t)) at second
+    (sym (ap (meant t) (m .decision2 .given .1)) ∙ k .decide .ensures .0) (to-end t off)
     (said (c .pair-answer .result)) (b .apply-both .result) (not (eqb (f .read-u16 .result) 0)) (slots (b .apply-both .last .0))
     (c .pair-answer .ensures)
-    (b .apply-both .ensures .1 ∙ ap (λ (l : List ℕ). eitherWorked (a .d) t l at) (to-end t off))
+    (b .apply-both .ensures .1)
     (ap (λ (n : ℕ). not (eqb n 0)) (f .read-u16 .ensures .0))
-    (b .apply-both .ensures .0 ∙ ap (λ (l : List ℕ). planned (a .s) (a .u) (a .d) t (a .idx) (adjust l at second) ss) (to-end t off))
+    (b .apply-both .ensures .0)
 
 pub adjust-pair-spec : {M : Type 1} → statement M
 adjust-pair-spec =

@@ -1,10 +1,9 @@
 -- `pair::decision::decide` meets its contract: the first glyph's coverage comes first, and the neighbour only where it is covered. Assumes nothing.
-use mathlib.Core.Path.{sym, ap, _∙_}
 use borrow.Author.Needs.{needs}
 use denote.Ref.{now}
 use Rattle.slots.specs.Line.{slots}
-use Rattle.pair.specs.Plan.{fromCovered}
-use Rattle.pair.proofs.PlanLaws.{by-coverage}
+use Rattle.pair.specs.Codes.{meant}
+use Rattle.pair.proofs.PlanLaws.{covered, uncovered}
 use Rattle.pair.proofs.decision.decide.Statement.{statement}
 use Rattle.pair.proofs.decision.decide.Tie as tie
 
@@ -28,10 +27,9 @@ returns c =
     let m = c .before .before in
     let i = m .before .before in
     let g = i .before in
-    let a = g .before .before .before .args in
-    let ss = slots (now (a .line)) in (
-      c .from-neighbour .ensures .0 ∙ sym (ap (fromCovered (now (a .t)) ss (a .idx) (a .neighbour)) (m .covered .given .1))
-          ∙ by-coverage (now (a .t)) ss (a .idx) (a .neighbour) (g .glyph .result) (g .glyph .ensures .0) (i .first-index .result) (i .first-index .ensures),
+    let a = g .before .before .before .args in (
+      covered (now (a .t)) (slots (now (a .line))) (a .idx) (a .neighbour) (g .glyph .result) (i .first-index .result) (g .glyph .ensures .0)
+          (i .first-index .ensures) (m .covered .given .0 .0) (m .covered .given .1) (meant (now (a .t)) (c .from-neighbour .result)) (c .from-neighbour .ensures .0),
       c .from-neighbour .ensures .1,
     )
 
@@ -39,10 +37,9 @@ returns-2 : tie.Need-returns-2
 returns-2 c =
     let i = c .before .before in
     let g = i .before in
-    let a = g .before .before .before .args in
-    let ss = slots (now (a .line)) in (
-      sym (ap (fromCovered (now (a .t)) ss (a .idx) (a .neighbour)) (c .enum-told .given .1))
-          ∙ by-coverage (now (a .t)) ss (a .idx) (a .neighbour) (g .glyph .result) (g .glyph .ensures .0) (i .first-index .result) (i .first-index .ensures),
+    let a = g .before .before .before .args in (
+      uncovered (now (a .t)) (slots (now (a .line))) (a .idx) (a .neighbour) (g .glyph .result) (i .first-index .result) (g .glyph .ensures .0)
+          (i .first-index .ensures) (c .enum-told .given .1),
       tt,
     )
 

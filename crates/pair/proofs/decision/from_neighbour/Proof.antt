@@ -1,11 +1,12 @@
 -- `pair::decision::from_neighbour` meets its contract: a neighbour that is named is after this slot and in the line, and one that is missing has its bound reported.
 -- Assumes nothing.
-use mathlib.Core.Path.{sym, ap, subst, _∙_}
+use mathlib.Core.Path.{subst}
 use borrow.Author.Needs.{needs}
 use denote.Ref.{now}
 use Rattle.slots.specs.Line.{count, slots}
-use Rattle.pair.specs.Codes.{After}
-use Rattle.pair.specs.Plan.{fromNeighbour, stop}
+use Rattle.answers.specs.Said.{ranges}
+use Rattle.pair.specs.Codes.{After, meant}
+use Rattle.pair.proofs.PlanLaws.{by-missing, by-named}
 use Rattle.pair.proofs.decision.from_neighbour.Statement.{statement}
 use Rattle.pair.proofs.decision.from_neighbour.Tie as tie
 
@@ -29,15 +30,19 @@ returns : tie.Need-returns
 returns c =
     let m = c .before .before in
     let a = m .before .before .before .before .args in (
-      c .from-second .ensures .0 ∙ sym (ap (fromNeighbour (now (a .t)) (slots (now (a .line))) (a .idx) (a .k)) (m .neighbour .given .1)),
+      by-named (now (a .t)) (slots (now (a .line))) (a .idx) (a .k) (a .neighbour) (m .neighbour .given .0 .0) (m .neighbour .given .1)
+          (meant (now (a .t)) (c .from-second .result)) (c .from-second .ensures .0),
       c .from-second .ensures .1,
     )
 
 returns-2 : tie.Need-returns-2
 returns-2 c =
     let m = c .before .before in
-    let a = m .before .before .before .before .args in
-    (ap stop (c .concat-from .ensures) ∙ sym (ap (fromNeighbour (now (a .t)) (slots (now (a .line))) (a .idx) (a .k)) (m .neighbour2 .given .1)), tt)
+    let a = m .before .before .before .before .args in (
+      by-missing (now (a .t)) (slots (now (a .line))) (a .idx) (a .k) (a .neighbour) (m .neighbour2 .given .0 .0) (m .neighbour2 .given .1)
+          (ranges (c .concat-from .result)) (c .concat-from .ensures),
+      tt,
+    )
 
 pub from-neighbour-spec : {M : Type 1} → statement M
 from-neighbour-spec =

@@ -1,9 +1,9 @@
 -- `pair::decision::from_probe` meets its contract: one arm for each answer of the probe. Assumes nothing.
 use mathlib.Core.Path.{sym, ap, subst, _∙_}
 use native.Mathlib.Omega.{arith}
+use lib.ListN.{drop}
 use borrow.Author.Needs.{needs}
 use denote.Ref.{now}
-use lib.ListN.{drop}
 use Rattle.pair.specs.Plan.{fromProbe, stop}
 use Rattle.pair.specs.ProbeSmall.{ProbeSmall}
 use Rattle.pair.proofs.decision.from_probe.Statement.{statement}

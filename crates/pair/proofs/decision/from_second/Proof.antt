@@ -6,7 +6,7 @@ use borrow.Author.Needs.{needs}
 use denote.Ref.{now}
 use Rattle.slots.specs.Line.{slots}
 use Rattle.tables.specs.ClassDef.{classGoodAt}
-use Rattle.pair.specs.Codes.{Sound}
+use Rattle.pair.specs.Codes.{meant, Sound}
 use Rattle.pair.specs.PairPos.{posFormat}
 use Rattle.pair.proofs.PairPosLaws.{good}
 use Rattle.pair.proofs.PlanLaws.{by-classes, by-set}
@@ -32,9 +32,8 @@ returns c =
     let g = f .before in
     let n = g .before in
     let a = n .before .before .before .args in (
-      c .from-set .ensures .0
-          ∙ by-set (now (a .t)) (slots (now (a .line))) (a .idx) (a .k) (a .second) (f .read-u16 .result) (g .glyph .result) (f .read-u16 .ensures .0) (i .if1 .taken)
-          (g .glyph .ensures .0),
+      by-set (now (a .t)) (slots (now (a .line))) (a .idx) (a .k) (a .second) (meant (now (a .t)) (c .from-set .result)) (f .read-u16 .result) (g .glyph .result)
+          (f .read-u16 .ensures .0) (i .if1 .taken) (g .glyph .ensures .0) (c .from-set .ensures .0),
       subst (λ (m : ℕ). Sound (now (a .t)) m (a .idx) (c .from-set .result)) (n .slot-count .ensures) (c .from-set .ensures .1),
     )
 
@@ -101,10 +100,10 @@ returns-2 c =
     let g₂ = i .before .before in
     let n = g₂ .before in
     let a = n .before .before .before .args in (
-      c .from-classes .ensures .0
-          ∙ by-classes (now (a .t)) (slots (now (a .line))) (a .idx) (a .k) (a .second) (other i) (g₁ .glyph2 .result) (g₂ .glyph .result) (o₁ .read-u162 .result)
-          (o₂ .read-u163 .result) (c₁ .class-at .result) (c₂ .class-at2 .result) (g₁ .glyph2 .ensures .0) (g₂ .glyph .ensures .0) (o₁ .read-u162 .ensures .0)
-          (o₂ .read-u163 .ensures .0) (c₁ .class-at .ensures .0) (c₂ .class-at2 .ensures .0),
+      by-classes (now (a .t)) (slots (now (a .line))) (a .idx) (a .k) (a .second) (meant (now (a .t)) (c .from-classes .result)) (other i)
+          (g₁ .glyph2 .result) (g₂ .glyph .result) (o₁ .read-u162 .result) (o₂ .read-u163 .result) (c₁ .class-at .result) (c₂ .class-at2 .result)
+          (g₁ .glyph2 .ensures .0) (g₂ .glyph .ensures .0) (o₁ .read-u162 .ensures .0) (o₂ .read-u163 .ensures .0) (c₁ .class-at .ensures .0)
+          (c₂ .class-at2 .ensures .0) (c .from-classes .ensures .0),
       subst (λ (m : ℕ). Sound (now (a .t)) m (a .idx) (c .from-classes .result)) (n .slot-count .ensures) (c .from-classes .ensures .1),
     )
 

@@ -1,8 +1,8 @@
 -- `pair::decision::from_set` meets its contract: the set at the offset is the coverage index's; it is too short to have a count, or it is the part that is probed.
 -- Assumes nothing.
-use mathlib.Core.Path.{_∙_}
 use borrow.Author.Needs.{needs}
 use denote.Ref.{now}
+use Rattle.pair.specs.Codes.{meant}
 use Rattle.pair.proofs.PlanLaws.{probed-set, set-in, short-set}
 use Rattle.pair.proofs.decision.from_set.Statement.{statement}
 use Rattle.pair.proofs.decision.from_set.Tie as tie
@@ -53,9 +53,9 @@ returns-2 c =
     let b = i .before in
     let o = b .before in
     let a = o .before .before .args in (
-      c .from-probe .ensures .0
-          ∙ probed-set (now (a .t)) (a .idx) (a .second) (a .glyph) (o .set-offset .result) (a .k) (now (b .table-at .result)) (b .table-at .ensures)
-          (o .set-offset .ensures .0) (i .if1 .left) (l .pair-length .result) (l .pair-length .ensures .0) (p .probe-for .result) (p .probe-for .ensures .0),
+      probed-set (now (a .t)) (a .idx) (a .second) (a .glyph) (o .set-offset .result) (a .k) (now (b .table-at .result)) (b .table-at .ensures)
+          (o .set-offset .ensures .0) (i .if1 .left) (l .pair-length .result) (l .pair-length .ensures .0) (p .probe-for .result) (p .probe-for .ensures .0) (meant (now (a .t)) (c .from-probe .result))
+          (c .from-probe .ensures .0),
       c .from-probe .ensures .1,
     )
 

@@ -1,9 +1,9 @@
 -- `pair::subtable::first_index` meets its contract: the coverage of a good subtable is good, and is searched. Assumes nothing.
 use mathlib.Core.Path.{ap, _∙_}
+use Prim.Native.Nat.{ℕ}
 use native.Mathlib.Omega.{arith}
 use borrow.Author.Needs.{needs}
 use denote.Ref.{now}
-use Prim.Native.Nat.{ℕ}
 use Rattle.tables.specs.Coverage.{coverageAt, coverageGoodAt}
 use Rattle.pair.proofs.PairPosLaws.{good}
 use Rattle.pair.proofs.subtable.first_index.Statement.{statement}

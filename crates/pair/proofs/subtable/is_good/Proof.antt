@@ -3,10 +3,10 @@ use mathlib.Core.Path.{_≡_, sym, ap, _∙_}
 use mathlib.Core.Bool.{true}
 use Prim.Native.Nat.{_≤_}
 use native.Mathlib.Omega.{arith}
+use lib.ListN.{length}
 use borrow.Author.Needs.{needs}
 use borrow.Author.Tests.{not-false, not-true}
 use denote.Ref.{now}
-use lib.ListN.{length}
 use Rattle.tables.specs.Coverage.{coverageGoodAt}
 use Rattle.pair.specs.PairPos.{format1, format2, headerGood}
 use Rattle.pair.proofs.PairPosLaws.{bad-coverage, bad-header, by-classes, header, too-long, unknown-first, unknown-second}

@@ -1,9 +1,9 @@
 -- `pair::subtable::pair_length` meets its contract: the value formats of a good subtable are known, so each record has 16 bytes at most. Assumes nothing.
 use mathlib.Core.Path.{ap, ap₂, _∙_}
+use Prim.Native.Nat.{ℕ, _+_}
 use native.Mathlib.Omega.{arith}
 use borrow.Author.Needs.{needs}
 use denote.Ref.{now}
-use Prim.Native.Nat.{ℕ, _+_}
 use Rattle.values.specs.Format.{recordLength}
 use Rattle.pair.proofs.PairPosLaws.{good}
 use Rattle.pair.proofs.subtable.pair_length.Statement.{statement}

@@ -1,0 +1,133 @@
+//! Makes calls, asks the oracle and the port, and compares every field and every byte. oracle/run builds both and starts this.
+mod call;
+mod compare;
+mod lines;
+mod list;
+mod planted;
+mod rng;
+mod sets;
+mod shrink;
+mod sides;
+mod tables;
+
+use call::*;
+use sides::Side;
+
+/// What oracle/run was given.
+struct Options {
+    oracle: Vec<String>,
+    port: Vec<String>,
+    calls: usize,
+    seed: u64,
+    every: usize,
+    workers: usize,
+    kinds: Vec<usize>,
+    replay: Option<String>,
+    planted: bool,
+    list: Option<String>,
+}
+
+fn fail(text: &str) -> ! {
+    eprintln!("oracle/run: {text}");
+    std::process::exit(2)
+}
+
+fn number(text: &str) -> usize {
+    text.replace(['_', ','], "").parse().unwrap_or_else(|_| fail(&format!("{text} is not a number")))
+}
+
+fn kinds(text: &str) -> Vec<usize> {
+    let of = |name: &str| NAMES.iter().position(|n| *n == name).unwrap_or_else(|| fail(&format!("no kind is called {name}; there are {}", NAMES.join(", "))));
+    text.split(',').map(of).collect()
+}
+
+fn options() -> Options {
+    let workers = std::thread::available_parallelism().map_or(1, usize::from);
+    let mut o = Options {
+        oracle: vec![],
+        port: vec![],
+        calls: 1_000_000,
+        seed: 1,
+        every: 1,
+        workers,
+        kinds: (0..NAMES.len()).collect(),
+        replay: None,
+        planted: false,
+        list: None,
+    };
+    let mut words = std::env::args().skip(1);
+    while let Some(word) = words.next() {
+        let mut value = || words.next().unwrap_or_else(|| fail(&format!("{word} wants a value")));
+        match word.as_str() {
+            "--oracle" => o.oracle = value().split(' ').map(String::from).collect(),
+            "--port" => o.port = value().split(' ').map(String::from).collect(),
+            "--calls" => o.calls = number(&value()),
+            "--seed" => o.seed = number(&value()) as u64,
+            "--every" => o.every = number(&value()).max(1),
+            "--workers" => o.workers = number(&value()).max(1),
+            "--kinds" => o.kinds = kinds(&value()),
+            "--replay" => o.replay = Some(value()),
+            "--planted" => o.planted = true,
+            "--list" => o.list = Some(value()),
+            _ => fail(&format!("unknown word {word}")),
+        }
+    }
+    o
+}
+
+/// Both answers to one call, and whether they are alike.
+fn show(call: &Call, oracle: &mut Side, port: &mut Side) -> bool {
+    let one = std::slice::from_ref(call);
+    let (theirs, ours) = (oracle.ask(one).remove(0), port.ask(one).remove(0));
+    println!("{}", call.describe());
+    println!("  line      {}\n  subtable  {}", hex(&call.line), hex(&call.subtable));
+    for (name, a) in [("oracle", &theirs), ("port", &ours)] {
+        println!("  {name:8}  {}, next {}, hazards {:?}", a.outcome(), a.next, &a.hazard[..a.hazards.min(2) as usize]);
+        println!("            {}", hex(&a.line));
+    }
+    match ours.difference(&theirs) {
+        None => println!("alike"),
+        Some(d) => println!("they differ (port and oracle): {d}"),
+    }
+    ours == theirs
+}
+
+fn compare(o: &Options, kinds: &[usize]) -> bool {
+    let began = std::time::Instant::now();
+    let jobs = compare::plan(kinds, o.calls, o.seed, o.every);
+    let (tally, found) = compare::run(&jobs, &o.oracle, &o.port, o.workers);
+    compare::show(&tally);
+    let all: usize = tally.values().sum();
+    let Some(found) = found else {
+        println!("{all} calls in {} s, seed {}: port and oracle alike in every field and every byte", began.elapsed().as_secs(), o.seed);
+        return true;
+    };
+    println!("A DIFFERENCE, made smaller:");
+    let (mut oracle, mut port) = (Side::start(&o.oracle), Side::start(&o.port));
+    let small = shrink::shrink(found.call, &mut oracle, &mut port);
+    show(&small, &mut oracle, &mut port);
+    println!("again: oracle/run --replay {}", hex(&small.frame()));
+    false
+}
+
+fn main() {
+    let o = options();
+    let have = Side::start(&o.port).kinds();
+    let (kinds, absent): (Vec<usize>, Vec<usize>) = o.kinds.iter().partition(|k| have[**k]);
+    if !absent.is_empty() {
+        let names: Vec<&str> = absent.iter().map(|k| NAMES[*k]).collect();
+        println!("skipped, since the C face doesn't have them yet: {}", names.join(", "));
+    }
+    if let Some(path) = &o.list {
+        return list::write(path, &kinds, &mut Side::start(&o.oracle));
+    }
+    let good = if let Some(text) = &o.replay {
+        let call = unhex(text).and_then(|b| Call::parse(&b)).unwrap_or_else(|| fail("that is not the hex of a call"));
+        show(&call, &mut Side::start(&o.oracle), &mut Side::start(&o.port))
+    } else if o.planted {
+        planted::run(&kinds, &o.oracle, &o.port, o.calls, o.seed)
+    } else {
+        compare(&o, &kinds)
+    };
+    std::process::exit(if good { 0 } else { 1 });
+}

@@ -1,0 +1,225 @@
+//! Calls made one by one from their number: short lines in full, every length around a boundary, every byte of a slot's first fields, every mixture of
+//! refusals, each argument at its ends, and each subtable cut at every byte and changed at every bit.
+use crate::call::*;
+use crate::lines::{arguments, push, Slot};
+use crate::rng::Rng;
+use crate::tables::{damage, subtable, whole};
+
+pub struct Set {
+    pub name: &'static str,
+    pub count: usize,
+    pub make: fn(kind: usize, number: usize) -> Call,
+}
+
+/// A call of the kind that is applied, on a line of n slots.
+pub fn plain(kind: usize, n: usize) -> Call {
+    let mut line = vec![];
+    for i in 0..n {
+        let marks = kind >= MARK_BASE && i + 1 == n;
+        push(&mut line, Slot {
+            glyph: (i % 8) as u16,
+            ligature_id: 1,
+            component: (i % 4) as u8,
+            flags: if marks { 2 } else { 1 },
+            kind: 0,
+            chain: 0,
+            measures: [600 + i as i32, 31 * i as i32, i as i32 * 7, -5 * i as i32],
+        });
+    }
+    let index = match kind {
+        PAIR => n.saturating_sub(2),
+        _ => n.saturating_sub(1),
+    };
+    let neighbour = if kind == PAIR { index + 1 } else { index.saturating_sub(1) };
+    Call {
+        kind,
+        direction: 0,
+        s: 1000,
+        u: 1000,
+        limit: 64,
+        attachments: 1,
+        missing: 0,
+        lookup_flag: 0,
+        index: index as u64,
+        neighbour: neighbour as u64,
+        line,
+        subtable: whole(kind),
+    }
+}
+
+/// The same with a random subtable, of which nothing is wrong but what it lacks.
+fn varied(kind: usize, seed: usize) -> Call {
+    let mut call = plain(kind, 6);
+    call.direction = (seed % 4) as u32;
+    call.lookup_flag = (seed / 4 % 2) as u32;
+    call.subtable = subtable(&mut Rng::new(0x5EED + seed as u64), kind, 1 << 30);
+    call
+}
+
+/// The digit of `number` in a mixed base, taken off.
+fn digit(number: &mut usize, base: usize) -> usize {
+    let d = *number % base;
+    *number /= base;
+    d
+}
+
+/// Every line of three slots with chains -3 to 3 and types 0 to 3, in each direction, and with each limit, flag, index and neighbour that matters.
+fn chains(kind: usize, mut number: usize) -> Call {
+    let mut call = plain(kind, 3);
+    for i in 0..3 {
+        call.line[24 * i + 5] = digit(&mut number, 4) as u8;
+        let chain = digit(&mut number, 7) as i16 - 3;
+        call.line[24 * i + 6..24 * i + 8].copy_from_slice(&chain.to_be_bytes());
+        call.line[24 * i + 16..24 * i + 20].copy_from_slice(&[100i32, 1000, 10000][i].to_be_bytes());
+        call.line[24 * i + 20..24 * i + 24].copy_from_slice(&[3i32, 50, 700][i].to_be_bytes());
+    }
+    call.direction = digit(&mut number, 4) as u32;
+    match kind {
+        FINISH => call.limit = [0, 1, 2, 64][digit(&mut number, 4)],
+        CURSIVE => {
+            call.lookup_flag = digit(&mut number, 2) as u32;
+            (call.index, call.neighbour) = [(1, 0), (2, 1), (2, 0)][digit(&mut number, 3)];
+        }
+        MARK_BASE | MARK_LIGATURE if digit(&mut number, 2) == 1 => call.line[24 + 4] = 0,
+        _ => {}
+    }
+    call
+}
+
+/// Every length up to four slots and a byte, and from 24,540 to 24,620.
+fn lengths(kind: usize, number: usize) -> Call {
+    let n = if number < 98 { number } else { 24540 + number - 98 };
+    let mut call = plain(kind, n / 24 + 1);
+    call.line.truncate(n);
+    let slots = n as u64 / 24;
+    call.index = slots.saturating_sub(if kind == PAIR { 2 } else { 1 });
+    call.neighbour = if kind == PAIR { call.index + 1 } else { call.index.saturating_sub(1) };
+    call
+}
+
+/// Every value of the bytes 2 to 5 of a slot.
+fn bytes(kind: usize, mut number: usize) -> Call {
+    let mut call = plain(kind, 3);
+    let value = digit(&mut number, 256) as u8;
+    let byte = 2 + digit(&mut number, 4);
+    call.line[24 * digit(&mut number, 3) + byte] = value;
+    call
+}
+
+/// Each argument at its ends.
+fn ends(kind: usize, mut number: usize) -> Call {
+    const SCALE_S: [u32; 10] = [0, 1, 2, 500, 32767, 32768, 32769, 65536, 1 << 31, u32::MAX];
+    const SCALE_U: [u32; 10] = [0, 15, 16, 17, 1000, 16383, 16384, 16385, 1 << 31, u32::MAX];
+    const PLACES: [u64; 10] = [0, 1, 2, 3, 4, 5, 255, 1 << 32, 1 << 63, u64::MAX];
+    let mut call = plain(kind, 4);
+    call.direction = digit(&mut number, 4) as u32;
+    call.lookup_flag = digit(&mut number, 2) as u32;
+    let k = digit(&mut number, 100);
+    match digit(&mut number, 5) {
+        0 => {
+            call.s = SCALE_S[k % 10];
+            call.u = SCALE_U[k / 10];
+        }
+        1 => {
+            call.limit = k as u32;
+            call.attachments = [0, 1, 2, 1 << 31][k % 4];
+        }
+        2 => call.direction = [0, 1, 2, 3, 4, 5, 7, 256, 1 << 31, u32::MAX][k % 10],
+        which => {
+            call.missing = which as u32 - 3;
+            call.index = PLACES[k % 10];
+            call.neighbour = PLACES[k / 10];
+        }
+    }
+    call
+}
+
+/// Every mixture of the causes of refusals 1 to 6, each in three ways.
+fn refusals(kind: usize, mut number: usize) -> Call {
+    let mut call = plain(kind, 3);
+    let causes = digit(&mut number, 64);
+    let way = digit(&mut number, 3);
+    let has = |k: usize| causes >> k & 1 == 1;
+    if has(1) {
+        call.direction = [4, 255, u32::MAX][way];
+    }
+    if has(2) {
+        call.limit = [65, 100, u32::MAX][way];
+        (call.s, call.u) = [(0, 1000), (32769, 15), (1000, 16385)][way];
+    }
+    if has(3) {
+        call.line[24 * way + 2 + way] = [8, 16, 8][way];
+    }
+    if has(4) {
+        call.index = [3, 4, u64::MAX][way];
+    }
+    if has(5) {
+        call.subtable = [vec![], vec![0, 9, 0, 0, 0, 0, 0, 0, 0, 0, 0, 0, 0, 0, 0, 0], vec![0; 65537]][way].clone();
+    }
+    if has(0) {
+        call.line.extend([vec![0; 1], vec![0; 23], vec![0; 24600]][way].clone());
+    }
+    call
+}
+
+const CUT: usize = 200;
+
+/// A good subtable cut at each byte.
+fn cuts(kind: usize, mut number: usize) -> Call {
+    let at = digit(&mut number, CUT);
+    let mut call = varied(kind, number);
+    call.subtable.truncate(at);
+    call
+}
+
+/// A good subtable with one bit changed.
+fn bits(kind: usize, mut number: usize) -> Call {
+    let bit = digit(&mut number, 8);
+    let at = digit(&mut number, CUT);
+    let mut call = varied(kind, number);
+    if let Some(b) = call.subtable.get_mut(at) {
+        *b ^= 1 << bit;
+    }
+    call
+}
+
+/// Subtables as long as is allowed, and a byte longer: a coverage of many glyphs, or a good subtable with zeros after it.
+fn long_tables(kind: usize, mut number: usize) -> Call {
+    let len = [65534, 65535, 65536, 65537, 70000][digit(&mut number, 5)];
+    let mut call = varied(kind, number);
+    call.subtable.resize(len, 0);
+    call
+}
+
+/// The sets of a kind.
+pub fn sets(kind: usize) -> Vec<Set> {
+    let short = 343 * 64;
+    let mut all = vec![
+        Set { name: "lengths", count: 98 + 81, make: lengths },
+        Set { name: "bytes", count: 256 * 4 * 3, make: bytes },
+        Set { name: "ends", count: 8 * 100 * 5, make: ends },
+        Set { name: "refusals", count: 64 * 3, make: refusals },
+    ];
+    match kind {
+        START => all.push(Set { name: "short lines", count: short, make: chains }),
+        FINISH => all.push(Set { name: "short lines", count: short * 4 * 4, make: chains }),
+        CURSIVE => all.push(Set { name: "short lines", count: short * 4 * 2 * 3, make: chains }),
+        MARK_BASE | MARK_LIGATURE => all.push(Set { name: "short lines", count: short * 4 * 2, make: chains }),
+        _ => {}
+    }
+    if kind >= SINGLE {
+        all.push(Set { name: "subtables cut", count: CUT * 60, make: cuts });
+        all.push(Set { name: "subtables with a bit changed", count: CUT * 8 * 40, make: bits });
+        all.push(Set { name: "long subtables", count: 5 * 8, make: long_tables });
+    }
+    all
+}
+
+/// A random call: most are good, some have a few faults, some have many.
+pub fn random(r: &mut Rng, kind: usize) -> Call {
+    let odds = r.pick(&[1000, 60, 60, 25, 25, 6]);
+    let mut call = arguments(r, kind, odds);
+    call.subtable = subtable(r, kind, odds);
+    damage(r, &mut call.subtable, odds);
+    call
+}

@@ -1,0 +1,135 @@
+/* Answers frames on standard input, as README.md has them, by calling the library: the port's side of the comparison. A call joins by a function and a row. */
+#include "gpos.h"
+
+#include <stdio.h>
+#include <stdlib.h>
+#include <string.h>
+
+typedef struct {
+    uint32_t direction, s, u, limit, attachments, missing, lookup_flag;
+    size_t index, neighbour, line_len, subtable_len;
+    uint8_t *line, *subtable;
+} call;
+
+/* status, refusal, attached, hazards, next, two hazards of kind, start and end, harm */
+typedef struct {
+    uint64_t number[12];
+} said;
+
+enum { DONE = 0, REFUSED = 3 };
+
+static said done(uint32_t number) {
+    said a = {{number == 0 ? DONE : REFUSED, number}};
+    return a;
+}
+
+static said applying(gpos_answer g) {
+    said a = {{g.status, g.refusal, g.attached, g.hazards, g.next, g.hazard[0].kind, g.hazard[0].start, g.hazard[0].end, g.hazard[1].kind, g.hazard[1].start,
+               g.hazard[1].end}};
+    return a;
+}
+
+static said start(const call *c) { return done(gpos_start(c->line, c->line_len)); }
+
+static said finish(const call *c) { return done(gpos_finish(c->line, c->line_len, c->direction, c->limit, c->attachments)); }
+
+#define APPLYING c->line, c->line_len, c->subtable, c->subtable_len, c->direction, c->s, c->u, c->index
+static said single(const call *c) { return applying(gpos_single(APPLYING)); }
+static said pair(const call *c) { return applying(gpos_pair(APPLYING, c->missing, c->neighbour)); }
+static said cursive(const call *c) { return applying(gpos_cursive(APPLYING, c->missing, c->neighbour, c->lookup_flag)); }
+static said mark_base(const call *c) { return applying(gpos_mark_base(APPLYING)); }
+static said mark_ligature(const call *c) { return applying(gpos_mark_ligature(APPLYING)); }
+
+/* By kind; a call that the library doesn't have yet is left out. */
+static said (*const rows[7])(const call *) = {
+    [0] = start,
+    [1] = finish,
+    [2] = single,
+    [3] = pair,
+    [4] = cursive,
+    [5] = mark_base,
+    [6] = mark_ligature,
+};
+
+enum { KINDS = 255, HEADER = 56, GUARD = 64 };
+
+/* Memory between two guards. */
+typedef struct {
+    uint8_t *all;
+    size_t room, len;
+} lent;
+
+static uint8_t *lend(lent *m, const uint8_t *from, size_t len) {
+    if (m->room < len + 2 * GUARD) {
+        m->room = 2 * len + 2 * GUARD;
+        m->all = realloc(m->all, m->room);
+    }
+    m->len = len;
+    memset(m->all, 0xA5, GUARD);
+    memcpy(m->all + GUARD, from, len);
+    memset(m->all + GUARD + len, 0x5A, GUARD);
+    return len == 0 ? NULL : m->all + GUARD;
+}
+
+static int harmed(const lent *m) {
+    for (size_t k = 0; k < GUARD; k++)
+        if (m->all[k] != 0xA5 || m->all[GUARD + m->len + k] != 0x5A) return 1;
+    return 0;
+}
+
+static uint64_t get(const uint8_t *at, int bytes) {
+    uint64_t n = 0;
+    for (int k = 0; k < bytes; k++) n = n << 8 | at[k];
+    return n;
+}
+
+static void put(uint64_t n, int bytes) {
+    uint8_t b[8];
+    for (int k = bytes; k > 0; n >>= 8) b[--k] = (uint8_t)n;
+    fwrite(b, 1, (size_t)bytes, stdout);
+}
+
+static said serve(const uint8_t *q, lent *line, lent *subtable) {
+    call c;
+    c.direction = (uint32_t)get(q + 4, 4);
+    c.s = (uint32_t)get(q + 8, 4);
+    c.u = (uint32_t)get(q + 12, 4);
+    c.limit = (uint32_t)get(q + 16, 4);
+    c.attachments = (uint32_t)get(q + 20, 4);
+    c.missing = (uint32_t)get(q + 24, 4);
+    c.lookup_flag = (uint32_t)get(q + 28, 4);
+    c.index = get(q + 32, 8);
+    c.neighbour = get(q + 40, 8);
+    c.line_len = get(q + 48, 4);
+    c.subtable_len = get(q + 52, 4);
+    c.line = lend(line, q + HEADER, c.line_len);
+    c.subtable = lend(subtable, q + HEADER + c.line_len, c.subtable_len);
+    said a = rows[q[0]](&c);
+    if (harmed(line) || harmed(subtable) || memcmp(subtable->all + GUARD, q + HEADER + c.line_len, c.subtable_len) != 0) a.number[11] = 1;
+    return a;
+}
+
+int main(void) {
+    lent line = {0}, subtable = {0};
+    uint8_t *request = NULL, size[4];
+    size_t room = 0;
+    while (fread(size, 1, 4, stdin) == 4) {
+        size_t n = get(size, 4);
+        if (n == 0) {
+            fflush(stdout);
+            continue;
+        }
+        if (room < n) request = realloc(request, room = 2 * n);
+        if (fread(request, 1, n, stdin) != n) return 1;
+        if (request[0] == KINDS) { /* which calls are there? */
+            put(7, 4);
+            for (int k = 0; k < 7; k++) put(rows[k] != NULL, 1);
+            continue;
+        }
+        said a = serve(request, &line, &subtable);
+        put(12 * 8 + line.len, 4);
+        for (int k = 0; k < 12; k++) put(a.number[k], 8);
+        fwrite(line.all + GUARD, 1, line.len, stdout);
+    }
+    return 0;
+}
