@@ -3,10 +3,28 @@
 
 #include <stdio.h>
 
-enum { BASE = 36, MARK = 501, SLOTS = 3 };
+enum { SLOTS = 3, BASE = 36, ABOVE = 501, BELOW = 502 };
 
-/* SinglePos format 1: value format 4, x advance +25 for glyph 36, by a coverage of format 1. */
-static const uint8_t wider[] = {0, 1, 0, 8, 0, 4, 0, 25, 0, 1, 0, 1, 0, 36};
+#define U16(n) (uint8_t)((n) >> 8 & 255), (uint8_t)((n) & 255)
+
+/* SinglePos format 1: value format 4, x advance +25 for the base. */
+static const uint8_t wider[] = {
+    U16(1), U16(8), U16(4), U16(25), /* the coverage is at 8 */
+    U16(1), U16(1), U16(BASE),
+};
+
+/* MarkBasePos format 1: two marks of two classes, one base. */
+static const uint8_t marks[] = {
+    U16(1), U16(12), U16(20), U16(2), U16(26), U16(48), /* coverages at 12 and 20, two classes, arrays at 26 and 48 */
+    U16(1), U16(2), U16(ABOVE), U16(BELOW),             /* the marks */
+    U16(1), U16(1), U16(BASE),                          /* the bases */
+    U16(2), U16(0), U16(10), U16(1), U16(16),           /* class and anchor of each mark */
+    U16(1), U16(20), U16(0),
+    U16(1), U16(20), U16(30),
+    U16(1), U16(6), U16(12), /* the base's anchor for each class */
+    U16(1), U16(300), U16(700),
+    U16(1), U16(280), U16(-50),
+};
 
 static uint8_t line[SLOTS * GPOS_SLOT_SIZE];
 
@@ -19,41 +37,35 @@ static void show(const char *what) {
     }
 }
 
-/* Attaches the mark in slot i to the base in slot 0, at an offset from the base's origin. */
-static void attach(int i, int32_t x, int32_t y) {
-    gpos_slot slot = gpos_get_slot(line + i * GPOS_SLOT_SIZE);
-    slot.type = GPOS_TYPE_MARK;
-    slot.chain = (int16_t)-i;
-    slot.x_offset = x;
-    slot.y_offset = y;
-    gpos_put_slot(line + i * GPOS_SLOT_SIZE, slot);
+static void say(const char *call, gpos_answer a) {
+    printf("%s: status %u, refusal %u, next %zu, attached %u", call, a.status, a.refusal, a.next, a.attached);
+    for (uint32_t k = 0; k < a.hazards; k++) printf(", %s [%zu, %zu)", a.hazard[k].kind == GPOS_BREAK ? "break" : "concat", a.hazard[k].start, a.hazard[k].end);
+    puts("");
 }
 
 int main(void) {
     gpos_slot base = {.glyph = BASE, .flags = GPOS_SEEN, .x_advance = 600};
-    gpos_slot mark = {.glyph = MARK, .flags = GPOS_MARK, .type = GPOS_TYPE_CURSIVE, .chain = 1}; /* an old attachment */
+    gpos_slot mark = {.glyph = ABOVE, .flags = GPOS_MARK, .type = GPOS_TYPE_CURSIVE, .chain = 1}; /* an old attachment */
     gpos_put_slot(line, base);
     gpos_put_slot(line + GPOS_SLOT_SIZE, mark);
+    mark.glyph = BELOW;
     gpos_put_slot(line + 2 * GPOS_SLOT_SIZE, mark);
     show("the line as it came");
+    printf("gpos_start: %u\n", gpos_start(line, sizeof line));
 
-    uint32_t refusal = gpos_start(line, sizeof line);
-    printf("gpos_start answers %u\n", refusal);
+    uint32_t attached = 0;
+    for (size_t i = 0; i < SLOTS; i++) {
+        gpos_answer a = gpos_single(line, sizeof line, wider, sizeof wider, GPOS_LEFT_TO_RIGHT, 1000, 1000, i);
+        say("gpos_single", a);
+        a = gpos_mark_base(line, sizeof line, marks, sizeof marks, GPOS_LEFT_TO_RIGHT, 1000, 1000, i);
+        say("gpos_mark_base", a);
+        attached |= a.attached;
+    }
+    show("adjusted and attached: offsets count from the base");
+    printf("gpos_finish: %u\n", gpos_finish(line, sizeof line, GPOS_LEFT_TO_RIGHT, GPOS_NESTING_LIMIT, attached));
+    show("finished: offsets count from the pen");
 
-    gpos_answer a = gpos_single(line, sizeof line, wider, sizeof wider, GPOS_LEFT_TO_RIGHT, 1000, 1000, 0);
-    printf("gpos_single at the base: status %u, next %zu, hazards %u\n", a.status, a.next, a.hazards);
-    a = gpos_single(line, sizeof line, wider, sizeof wider, GPOS_LEFT_TO_RIGHT, 1000, 1000, 1);
-    printf("gpos_single at a mark, which the subtable doesn't cover: status %u\n", a.status);
-
-    attach(1, 250, 40);
-    attach(2, 260, 740);
-    show("adjusted and attached");
-    refusal = gpos_finish(line, sizeof line, GPOS_LEFT_TO_RIGHT, GPOS_NESTING_LIMIT, 1);
-    printf("gpos_finish answers %u\n", refusal);
-    show("finished: each mark is drawn at its offset from the pen, which stands after the base");
-
-    printf("a line cut short: gpos_finish answers %u\n", gpos_finish(line, sizeof line - 1, GPOS_LEFT_TO_RIGHT, GPOS_NESTING_LIMIT, 1));
-    a = gpos_single(line, sizeof line, wider, sizeof wider - 1, GPOS_LEFT_TO_RIGHT, 1000, 1000, 0);
-    printf("a subtable cut short: status %u, refusal %u\n", a.status, a.refusal);
+    printf("gpos_finish of a line cut short: %u\n", gpos_finish(line, sizeof line - 1, GPOS_LEFT_TO_RIGHT, GPOS_NESTING_LIMIT, 1));
+    say("gpos_single with a subtable cut short", gpos_single(line, sizeof line, wider, sizeof wider - 1, GPOS_LEFT_TO_RIGHT, 1000, 1000, 0));
     return 0;
 }

@@ -107,7 +107,7 @@ uint32_t gpos_finish(uint8_t *line, size_t line_len, uint32_t direction, uint32_
 
 /* ---- Applying a subtable at a glyph
  *
- * Each call takes the line, the bytes of one GPOS subtable of its lookup type, from the subtable's format field to the end of the table, the
+ * Each call takes the line, the bytes of one GPOS subtable of its lookup type, from its format field to its end (or farther, if that is at most 65,536 bytes), the
  * direction, the scale, and the index of the slot at which to apply. A design value v becomes floor((2vs + u) / 2u): s is the size and u the units per em. */
 
 enum { GPOS_APPLIED = 1, GPOS_DECLINED = 2, GPOS_REFUSED = 3 };

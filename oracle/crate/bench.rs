@@ -62,7 +62,19 @@ struct Bench {
 impl Bench {
     fn request(&self) -> Request<'_> {
         let at = Neighbour::At(0);
-        Request { kind: SINGLE, direction: 0, s: 1000, u: 1000, limit: 64, attachments: true, neighbour: at, lookup_flag: 0, index: 0, line: &[], subtable: &self.subtable }
+        Request {
+            kind: SINGLE,
+            direction: 0,
+            s: 1000,
+            u: 1000,
+            limit: 64,
+            attachments: true,
+            neighbour: at,
+            lookup_flag: 0,
+            index: 0,
+            line: &[],
+            subtable: &self.subtable,
+        }
     }
     /// The crate's text, on the buffer.
     fn text(&mut self) {

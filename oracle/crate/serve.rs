@@ -63,16 +63,7 @@ pub fn direction(d: u32) -> Direction {
 }
 
 pub fn empty_buffer() -> Buffer {
-    Buffer {
-        direction: Direction::Invalid,
-        idx: 0,
-        len: 0,
-        info: Vec::new(),
-        pos: Vec::new(),
-        scratch_flags: 0,
-        hazards: [(0, 0, 0); 2],
-        hazard_count: 0,
-    }
+    Buffer { direction: Direction::Invalid, idx: 0, len: 0, info: Vec::new(), pos: Vec::new(), scratch_flags: 0, hazards: [(0, 0, 0); 2], hazard_count: 0 }
 }
 
 pub fn context<'a>(r: &Request, buffer: &'a mut Buffer) -> ApplyContext<'a> {

@@ -167,7 +167,13 @@ pub fn arguments(r: &mut Rng, kind: usize, odds: usize) -> Call {
     call.direction = if r.once_in(odds) { r.pick(&[4, 5, 255, 256, u32::MAX]) } else { r.below(4) as u32 };
     call.s = scale(r, 1, 32768, odds);
     call.u = scale(r, 16, 16384, odds);
-    call.limit = if r.once_in(odds) { r.pick(&[65, 66, 255, u32::MAX]) } else if r.once_in(2) { 64 } else { r.below(65) as u32 };
+    call.limit = if r.once_in(odds) {
+        r.pick(&[65, 66, 255, u32::MAX])
+    } else if r.once_in(2) {
+        64
+    } else {
+        r.below(65) as u32
+    };
     call.attachments = r.pick(&[1, 1, 1, 1, 1, 2, 256, u32::MAX, 0]);
     call.lookup_flag = r.pick(&[0, 1, 1, 0, 2, 3, 0x100, 0x101, 0xFFFE, 0xFFFF, 0x1_0000, u32::MAX]);
     call.index = if n == 0 || r.once_in(odds) {

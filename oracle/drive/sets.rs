@@ -16,15 +16,18 @@ pub fn plain(kind: usize, n: usize) -> Call {
     let mut line = vec![];
     for i in 0..n {
         let marks = kind >= MARK_BASE && i + 1 == n;
-        push(&mut line, Slot {
-            glyph: (i % 8) as u16,
-            ligature_id: 1,
-            component: (i % 4) as u8,
-            flags: if marks { 2 } else { 1 },
-            kind: 0,
-            chain: 0,
-            measures: [600 + i as i32, 31 * i as i32, i as i32 * 7, -5 * i as i32],
-        });
+        push(
+            &mut line,
+            Slot {
+                glyph: (i % 8) as u16,
+                ligature_id: 1,
+                component: (i % 4) as u8,
+                flags: if marks { 2 } else { 1 },
+                kind: 0,
+                chain: 0,
+                measures: [600 + i as i32, 31 * i as i32, i as i32 * 7, -5 * i as i32],
+            },
+        );
     }
     let index = match kind {
         PAIR => n.saturating_sub(2),

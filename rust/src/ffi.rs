@@ -1,0 +1,41 @@
+//! The C face, as include/gpos.h declares it.
+
+#[repr(C)]
+#[derive(Clone, Copy)]
+pub struct Hazard {
+    pub kind: u32,
+    pub start: usize,
+    pub end: usize,
+}
+
+#[repr(C)]
+pub struct Answer {
+    pub status: u32,
+    pub refusal: u32,
+    pub attached: u32,
+    pub hazards: u32,
+    pub next: usize,
+    pub hazard: [Hazard; 2],
+}
+
+extern "C" {
+    pub fn gpos_start(line: *mut u8, line_len: usize) -> u32;
+    pub fn gpos_finish(line: *mut u8, line_len: usize, direction: u32, nesting_limit: u32, attachments: u32) -> u32;
+}
+
+/// Declares a call that applies a subtable: the arguments that all have, then its own.
+macro_rules! applying {
+    ($($name:ident($($own:ident: $t:ty),*);)*) => {
+        extern "C" {
+            $(pub fn $name(line: *mut u8, line_len: usize, subtable: *const u8, subtable_len: usize, direction: u32, s: u32, u: u32, index: usize, $($own: $t),*) -> Answer;)*
+        }
+    };
+}
+
+applying! {
+    gpos_single();
+    gpos_pair(second_missing: u32, second: usize);
+    gpos_cursive(previous_missing: u32, previous: usize, lookup_flag: u32);
+    gpos_mark_base();
+    gpos_mark_ligature();
+}

@@ -1,0 +1,259 @@
+//! Glyph positioning (OpenType GPOS) on lines of glyph slots.
+//!
+//! A label is a *line*: up to 1,024 [`Slot`]s of 24 bytes each, as bytes that you lend. A call starts a line, applies one GPOS subtable at one glyph, or finishes
+//! the line. Nothing is allocated, and no call panics: every argument may have any value, and what is out of range is a [`Refusal`].
+//!
+//! ```no_run
+//! use gpos::{finish, mark_base, start, At, Direction, Outcome, Scale, NESTING_LIMIT};
+//!
+//! # fn main() -> Result<(), gpos::Refusal> {
+//! # let (mut line, subtable) = (vec![0u8; 48], [0u8; 8]);
+//! let at = At { direction: Direction::LeftToRight, scale: Scale { size: 1000, units_per_em: 1000 }, index: 1 };
+//! start(&mut line)?;
+//! let mut attachments = false;
+//! if let Outcome::Applied { attached, .. } = mark_base(&mut line, &subtable, at)? {
+//!     attachments |= attached;
+//! }
+//! finish(&mut line, Direction::LeftToRight, NESTING_LIMIT, attachments)?;
+//! # Ok(())
+//! # }
+//! ```
+//!
+//! The work is done by `libgpos_c.a`, which is proved to end, to stay inside what it is lent, and to answer and write exactly what its contracts say. This package
+//! is a thin safe face of it, in Rust's own types, and not proved itself. The library is for x86-64 Linux, so a program or a test links only there; `cargo check` and
+//! `cargo doc` work anywhere.
+#![warn(missing_docs)]
+
+mod ffi;
+#[allow(missing_docs)]
+mod slot;
+
+pub use slot::{line_of, slots_of, Slot};
+use std::fmt;
+use std::ops::Range;
+
+/// The nesting limit that shapers use.
+pub const NESTING_LIMIT: u32 = 64;
+
+/// Why a call was refused. The lowest number that applies is given, and no byte of the line has changed.
+#[derive(Clone, Copy, Debug, PartialEq, Eq, PartialOrd, Ord)]
+#[repr(u32)]
+pub enum Refusal {
+    /// The line's length is no multiple of 24, or above 24,576.
+    Line = 1,
+    /// The direction is above 3. This package can't ask for one.
+    Direction = 2,
+    /// The scale's size is not from 1 to 32,768, its units are not from 16 to 16,384, or the nesting limit is above 64.
+    Number = 3,
+    /// A slot's ligature id, component or spare flag bits are out of range.
+    Slot = 4,
+    /// The index is not in the line, or the neighbour is not where it must be.
+    Index = 5,
+    /// The subtable is over 65,536 bytes, cut, of unknown format, or has a bad list.
+    Subtable = 6,
+    /// A mark's base hangs on a chain of cursive attachments that never ends.
+    Endless = 7,
+}
+
+impl Refusal {
+    /// Its number, 1 to 7.
+    pub fn number(self) -> u32 {
+        self as u32
+    }
+
+    fn of(number: u32) -> Self {
+        match number {
+            1 => Self::Line,
+            2 => Self::Direction,
+            3 => Self::Number,
+            4 => Self::Slot,
+            5 => Self::Index,
+            6 => Self::Subtable,
+            _ => Self::Endless,
+        }
+    }
+}
+
+impl fmt::Display for Refusal {
+    fn fmt(&self, f: &mut fmt::Formatter<'_>) -> fmt::Result {
+        f.write_str(match self {
+            Self::Line => "the line's length is no multiple of 24, or above 24,576",
+            Self::Direction => "the direction is unknown",
+            Self::Number => "the scale or the nesting limit is out of range",
+            Self::Slot => "a slot's ligature id, component or flags are out of range",
+            Self::Index => "the index or the neighbour is out of place",
+            Self::Subtable => "the subtable is too long, cut, of unknown format, or has a bad list",
+            Self::Endless => "a chain of attachments never ends",
+        })
+    }
+}
+
+impl std::error::Error for Refusal {}
+
+/// The direction of text.
+#[derive(Clone, Copy, Debug, PartialEq, Eq)]
+#[repr(u32)]
+#[allow(missing_docs)]
+pub enum Direction {
+    LeftToRight = 0,
+    RightToLeft = 1,
+    TopToBottom = 2,
+    BottomToTop = 3,
+}
+
+/// A design value v becomes floor((2 v size + units) / 2 units).
+#[derive(Clone, Copy, Debug, PartialEq, Eq)]
+pub struct Scale {
+    /// 1 to 32,768
+    pub size: u32,
+    /// 16 to 16,384
+    pub units_per_em: u32,
+}
+
+/// What would look different: a line broken in the range, or texts shaped apart and put together there.
+#[derive(Clone, Copy, Debug, PartialEq, Eq)]
+pub enum HazardKind {
+    /// Unsafe to break.
+    Break,
+    /// Unsafe to concatenate.
+    Concat,
+}
+
+/// Glyphs that lean on each other. The range is as the lookup names it, and may reach past the line's end.
+#[derive(Clone, Debug, PartialEq, Eq)]
+#[allow(missing_docs)]
+pub struct Hazard {
+    pub kind: HazardKind,
+    pub range: Range<usize>,
+}
+
+/// What an applying call answers where it isn't refused.
+#[derive(Clone, Debug, PartialEq, Eq)]
+pub enum Outcome {
+    /// It was applied.
+    Applied {
+        /// The index at which to go on.
+        next: usize,
+        /// In the order in which they arise.
+        hazards: [Option<Hazard>; 2],
+        /// Whether a glyph was attached, so that [`finish`] has something to do.
+        attached: bool,
+    },
+    /// It was not, and no byte of the line has changed.
+    Declined {
+        /// What another text could have changed.
+        hazard: Option<Hazard>,
+    },
+}
+
+fn done(number: u32) -> Result<(), Refusal> {
+    if number == 0 {
+        Ok(())
+    } else {
+        Err(Refusal::of(number))
+    }
+}
+
+fn hazard(h: ffi::Hazard) -> Option<Hazard> {
+    let kind = match h.kind {
+        1 => HazardKind::Break,
+        2 => HazardKind::Concat,
+        _ => return None,
+    };
+    Some(Hazard { kind, range: h.start..h.end })
+}
+
+fn outcome(a: ffi::Answer) -> Result<Outcome, Refusal> {
+    let [first, second] = a.hazard.map(hazard);
+    match a.status {
+        1 => Ok(Outcome::Applied { next: a.next, hazards: [first, second], attached: a.attached == 1 }),
+        2 => Ok(Outcome::Declined { hazard: first }),
+        _ => Err(Refusal::of(a.refusal)),
+    }
+}
+
+/// Starts a line: sets every chain and type to 0, and changes nothing else.
+pub fn start(line: &mut [u8]) -> Result<(), Refusal> {
+    // SAFETY: the library reads and writes these bytes alone, and keeps no pointer.
+    done(unsafe { ffi::gpos_start(line.as_mut_ptr(), line.len()) })
+}
+
+/// Finishes a line: turns attachments into offsets, parents first, and sets every chain to 0. At most `nesting_limit` parents are followed from a slot. Without
+/// attachments the line stays as it is.
+pub fn finish(line: &mut [u8], direction: Direction, nesting_limit: u32, attachments: bool) -> Result<(), Refusal> {
+    // SAFETY: as in `start`.
+    done(unsafe { ffi::gpos_finish(line.as_mut_ptr(), line.len(), direction as u32, nesting_limit, attachments.into()) })
+}
+
+/// Where and how a subtable is applied: the arguments that all applying calls share.
+#[derive(Clone, Copy, Debug, PartialEq, Eq)]
+pub struct At {
+    /// The direction of the line.
+    pub direction: Direction,
+    /// From design units to the line's.
+    pub scale: Scale,
+    /// The slot at which to apply.
+    pub index: usize,
+}
+
+/// The other glyph of a pair or of a cursive attachment: the nearest that the lookup doesn't skip.
+#[derive(Clone, Copy, Debug, PartialEq, Eq)]
+pub enum Neighbour {
+    /// It is in this slot.
+    At(usize),
+    /// There is none, and this is how far the text was searched: the end for a pair, the start for a cursive attachment.
+    Missing(usize),
+}
+
+impl Neighbour {
+    fn numbers(self) -> (u32, usize) {
+        match self {
+            Self::At(slot) => (0, slot),
+            Self::Missing(bound) => (1, bound),
+        }
+    }
+}
+
+/// The lookup flag that turns a cursive attachment round.
+pub const RIGHT_TO_LEFT: u32 = 1;
+
+/// Calls the library with the arguments that all applying calls share, and the call's own.
+macro_rules! apply {
+    ($name:ident, $line:ident, $subtable:ident, $at:ident $(, $own:expr)*) => {
+        // SAFETY: as in `start`; the subtable is only read, and can't overlap a line that is lent to write.
+        outcome(unsafe {
+            ffi::$name(
+                $line.as_mut_ptr(), $line.len(), $subtable.as_ptr(), $subtable.len(),
+                $at.direction as u32, $at.scale.size, $at.scale.units_per_em, $at.index $(, $own)*
+            )
+        })
+    };
+}
+
+/// Single adjustment (lookup type 1): adds a value record to the glyph. Declined where the glyph is uncovered or has no record.
+pub fn single(line: &mut [u8], subtable: &[u8], at: At) -> Result<Outcome, Refusal> {
+    apply!(gpos_single, line, subtable, at)
+}
+
+/// Pair adjustment (lookup type 2): adds value records to the glyph and to the next one that the lookup doesn't skip.
+pub fn pair(line: &mut [u8], subtable: &[u8], at: At, second: Neighbour) -> Result<Outcome, Refusal> {
+    let (missing, place) = second.numbers();
+    apply!(gpos_pair, line, subtable, at, missing, place)
+}
+
+/// Cursive attachment (lookup type 3): joins the glyph's entry anchor to the exit anchor of the previous one that the lookup doesn't skip. Of the lookup flag
+/// only [`RIGHT_TO_LEFT`] is looked at.
+pub fn cursive(line: &mut [u8], subtable: &[u8], at: At, previous: Neighbour, lookup_flag: u32) -> Result<Outcome, Refusal> {
+    let (missing, place) = previous.numbers();
+    apply!(gpos_cursive, line, subtable, at, missing, place, lookup_flag)
+}
+
+/// Mark-to-base attachment (lookup type 4): attaches the mark to the nearest base before it that is seen.
+pub fn mark_base(line: &mut [u8], subtable: &[u8], at: At) -> Result<Outcome, Refusal> {
+    apply!(gpos_mark_base, line, subtable, at)
+}
+
+/// Mark-to-ligature attachment (lookup type 5): attaches the mark to its component of the nearest ligature before it that is seen.
+pub fn mark_ligature(line: &mut [u8], subtable: &[u8], at: At) -> Result<Outcome, Refusal> {
+    apply!(gpos_mark_ligature, line, subtable, at)
+}
