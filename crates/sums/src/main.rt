@@ -1,4 +1,6 @@
 // Sums worked by hand in document 01, run: each line says what was done and what came of it.
+mod adjusting;
+
 use slots::fields::ByteField;
 ghost use Prim.Native.Nat.{_<_};
 
@@ -95,4 +97,5 @@ fn main() {
     start_with(b"flags", ByteField::Flags, 8);
     start_with(b"type", ByteField::AttachType, 255);
     start_old_attachments();
+    adjusting::run();
 }
