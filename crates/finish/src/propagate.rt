@@ -7,7 +7,7 @@ ghost use Prim.Native.Nat.{_<_};
 ghost use Rattle.slots.specs.Line.{count, slots};
 ghost use Rattle.finish.specs.Finish.{settled};
 
-// The parent is read only after its own chain has been followed. A chain that leads outside the line, or past the nesting limit, is only cleared.
+// The parent is read only after its own chain has been followed; most parents have none, and cost no call. A chain that leads outside the line, or past the nesting limit, is only cleared.
 pub fn settle(line: &mut [u8], d: Direction, i: usize, limit: u32)
     requires { ⌜ i < count (now line) ⌝ }
     ensures { λ _. ⌜ slots (now (line .exit)) ≡ settled d limit (slots (now (line .entry))) i ⌝ }
@@ -21,6 +21,10 @@ pub fn settle(line: &mut [u8], d: Direction, i: usize, limit: u32)
         Parent::At(j) => {
             slots::fields::set_chain(line, i, 0);
             if limit == 0 {
+                return;
+            }
+            if slots::fields::chain(line, j) == 0 {
+                join(line, d, i, j);
                 return;
             }
             settle(line, d, j, limit - 1);
