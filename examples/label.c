@@ -1,11 +1,7 @@
-/* Positions a label of three glyphs, a base and two marks: starts the line, adjusts the base, attaches the marks and finishes. Then some refusals. */
-#include "gpos.h"
-
-#include <stdio.h>
+/* Positions a label of three glyphs, a base and two marks: starts the line, adjusts the base, attaches the marks and finishes. */
+#include "words.h"
 
 enum { SLOTS = 3, BASE = 36, ABOVE = 501, BELOW = 502 };
-
-#define U16(n) (uint8_t)((n) >> 8 & 255), (uint8_t)((n) & 255)
 
 /* SinglePos format 1: value format 4, x advance +25 for the base. */
 static const uint8_t wider[] = {
@@ -37,12 +33,6 @@ static void show(const char *what) {
     }
 }
 
-static void say(const char *call, gpos_answer a) {
-    printf("%s: status %u, refusal %u, next %zu, attached %u", call, a.status, a.refusal, a.next, a.attached);
-    for (uint32_t k = 0; k < a.hazards; k++) printf(", %s [%zu, %zu)", a.hazard[k].kind == GPOS_BREAK ? "break" : "concat", a.hazard[k].start, a.hazard[k].end);
-    puts("");
-}
-
 int main(void) {
     gpos_slot base = {.glyph = BASE, .flags = GPOS_SEEN, .x_advance = 600};
     gpos_slot mark = {.glyph = ABOVE, .flags = GPOS_MARK, .type = GPOS_TYPE_CURSIVE, .chain = 1}; /* an old attachment */
@@ -51,7 +41,7 @@ int main(void) {
     mark.glyph = BELOW;
     gpos_put_slot(line + 2 * GPOS_SLOT_SIZE, mark);
     show("the line as it came");
-    printf("gpos_start: %u\n", gpos_start(line, sizeof line));
+    say_done("gpos_start", gpos_start(line, sizeof line));
 
     uint32_t attached = 0;
     for (size_t i = 0; i < SLOTS; i++) {
@@ -62,10 +52,7 @@ int main(void) {
         attached |= a.attached;
     }
     show("adjusted and attached: offsets count from the base");
-    printf("gpos_finish: %u\n", gpos_finish(line, sizeof line, GPOS_LEFT_TO_RIGHT, GPOS_NESTING_LIMIT, attached));
+    say_done("gpos_finish", gpos_finish(line, sizeof line, GPOS_LEFT_TO_RIGHT, GPOS_NESTING_LIMIT, attached));
     show("finished: offsets count from the pen");
-
-    printf("gpos_finish of a line cut short: %u\n", gpos_finish(line, sizeof line - 1, GPOS_LEFT_TO_RIGHT, GPOS_NESTING_LIMIT, 1));
-    say("gpos_single with a subtable cut short", gpos_single(line, sizeof line, wider, sizeof wider - 1, GPOS_LEFT_TO_RIGHT, 1000, 1000, 0));
     return 0;
 }

@@ -1,39 +1,11 @@
 // Single adjustment of one slot, by value records written out: formats 1 and 2 of SinglePos, glyph 7 covered.
-use answers::Answer;
+use crate::answer::show_answer;
 use ints::big_endian::Signed;
 use slots::axis::Axis;
 use slots::fields::Measure;
 ghost use Prim.Native.Nat.{_<_};
 
-fn show_measure(name: &[u8], line: &[u8], m: Measure, a: Axis) {
-    if 0 < slots::fields::slot_count(line) {
-        show::text(name);
-        show::integer(slots::fields::get(line, 0, m, a));
-    }
-}
-
-// What the call answered, and the slot's four measures.
-fn show_answer(answer: Answer, line: &[u8]) {
-    match answer {
-        Answer::Refused(r) => show::refused(r),
-        Answer::Declined { hazards: _ } => show::text(b"declined\n"),
-        Answer::Applied {
-            next,
-            hazards: _,
-            attached: _,
-        } => {
-            show::text(b"applied, next ");
-            show::natural(next as u64);
-            show_measure(b", x offset ", line, Measure::Offset, Axis::X);
-            show_measure(b", y offset ", line, Measure::Offset, Axis::Y);
-            show_measure(b", x advance ", line, Measure::Advance, Axis::X);
-            show_measure(b", y advance ", line, Measure::Advance, Axis::Y);
-            show::text(b"\n");
-        }
-    }
-}
-
-// A line of one slot with a glyph, its advances and offsets at one number, adjusted by a subtable.
+// A line of one slot with a glyph, its advances and its x offset at one number, adjusted by a subtable.
 fn adjust(t: &[u8], glyph: u32, direction: u32, from: Signed)
     requires { ⌜ glyph < 65536 ⌝ }
 {
@@ -46,7 +18,7 @@ fn adjust(t: &[u8], glyph: u32, direction: u32, from: Signed)
         slots::fields::set(line, 0, Measure::Advance, Axis::Y, from);
     }
     let answer = gpos::single(line, t, direction, 1000, 1000, 0);
-    show_answer(answer, line);
+    show_answer(answer, line, 0);
 }
 
 // The same in each direction.

@@ -1,5 +1,7 @@
 // Sums worked by hand in document 01, run: each line says what was done and what came of it.
-mod adjusting;
+mod answer; // what a call answered
+mod adjusting; // single adjustment
+mod attaching; // a mark on a loop, the limit of nesting
 
 use slots::fields::ByteField;
 ghost use Prim.Native.Nat.{_<_};
@@ -98,4 +100,5 @@ fn main() {
     start_with(b"type", ByteField::AttachType, 255);
     start_old_attachments();
     adjusting::run();
+    attaching::run();
 }
