@@ -1,5 +1,4 @@
 // Short tables cut at every byte: + where the table passes, - where it doesn't.
-use libc::STDOUT_FILENO;
 use tables::anchor::Anchor;
 use tables::anchor::anchor_of;
 use tables::class_def;
@@ -27,22 +26,22 @@ fn passes(kind: Kind, s: &[u8]) -> bool {
 
 fn sign(passed: bool) {
     if passed {
-        io::write_all(STDOUT_FILENO, b"+");
+        show::text(b"+");
     } else {
-        io::write_all(STDOUT_FILENO, b"-");
+        show::text(b"-");
     }
 }
 
 // The first 0, 1, 2 .. bytes, and then all.
 fn cut(label: &[u8], kind: Kind, s: &[u8]) {
-    io::write_all(STDOUT_FILENO, label);
+    show::text(label);
     let mut n = 0;
     while n < s.len() {
         sign(passes(kind, &s[0..n]));
         n += 1;
     }
     sign(passes(kind, s));
-    io::write_all(STDOUT_FILENO, b"\n");
+    show::text(b"\n");
 }
 
 pub fn run() {

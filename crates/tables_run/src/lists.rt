@@ -1,5 +1,4 @@
 // Coverage tables and class lists.
-use libc::STDOUT_FILENO;
 use tables::class_def;
 use tables::coverage;
 use tables::coverage::Covered;
@@ -12,30 +11,30 @@ ghost use Rattle.tables.specs.Coverage.{coverageGoodAt};
 fn index(s: &[u8], glyph: u16)
     requires { ⌜ coverageGoodAt (now s) 2 ≡ true ⌝ }
 {
-    io::write_all(STDOUT_FILENO, b", ");
-    io::print_decimal(STDOUT_FILENO, glyph as u64);
+    show::text(b", ");
+    show::natural(glyph as u64);
     match coverage::index_at(s, 2, glyph as u32) {
         Covered::At(k) => {
-            io::write_all(STDOUT_FILENO, b" at ");
-            io::print_decimal(STDOUT_FILENO, k as u64);
+            show::text(b" at ");
+            show::natural(k as u64);
         }
         Covered::Not => {
-            io::write_all(STDOUT_FILENO, b" not");
+            show::text(b" not");
         }
     }
 }
 
 // A coverage table: the check, and three glyphs.
 pub fn covers(label: &[u8], s: &[u8], a: u16, b: u16, c: u16) {
-    io::write_all(STDOUT_FILENO, label);
+    show::text(label);
     if coverage::good_at(s, 2) {
-        io::write_all(STDOUT_FILENO, b": good");
+        show::text(b": good");
         index(s, a);
         index(s, b);
         index(s, c);
-        io::write_all(STDOUT_FILENO, b"\n");
+        show::text(b"\n");
     } else {
-        io::write_all(STDOUT_FILENO, b": refused\n");
+        show::text(b": refused\n");
     }
 }
 
@@ -43,26 +42,23 @@ pub fn covers(label: &[u8], s: &[u8], a: u16, b: u16, c: u16) {
 fn class(s: &[u8], glyph: u16)
     requires { ⌜ classGoodAt (now s) 2 ≡ true ⌝ }
 {
-    io::write_all(STDOUT_FILENO, b", ");
-    io::print_decimal(STDOUT_FILENO, glyph as u64);
-    io::write_all(STDOUT_FILENO, b" of ");
-    io::print_decimal(
-        STDOUT_FILENO,
-        class_def::class_at(s, 2, glyph as u32) as u64,
-    );
+    show::text(b", ");
+    show::natural(glyph as u64);
+    show::text(b" of ");
+    show::natural(class_def::class_at(s, 2, glyph as u32) as u64);
 }
 
 // A class list: the check, and three glyphs.
 pub fn sorts(label: &[u8], s: &[u8], a: u16, b: u16, c: u16) {
-    io::write_all(STDOUT_FILENO, label);
+    show::text(label);
     if class_def::good_at(s, 2) {
-        io::write_all(STDOUT_FILENO, b": good");
+        show::text(b": good");
         class(s, a);
         class(s, b);
         class(s, c);
-        io::write_all(STDOUT_FILENO, b"\n");
+        show::text(b"\n");
     } else {
-        io::write_all(STDOUT_FILENO, b": refused\n");
+        show::text(b": refused\n");
     }
 }
 

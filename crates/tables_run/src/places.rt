@@ -1,6 +1,4 @@
 // Anchors, mark arrays, rows of anchors.
-use ints::big_endian::Signed;
-use libc::STDOUT_FILENO;
 use tables::anchor;
 use tables::anchor::Anchor;
 use tables::anchor::Point;
@@ -9,46 +7,37 @@ use tables::anchor_rows::Rows;
 use tables::mark_array;
 use tables::mark_array::Mark;
 
-fn signed(v: Signed) {
-    if v < 2147483648 {
-        io::print_decimal(STDOUT_FILENO, v as u64);
-    } else {
-        io::write_all(STDOUT_FILENO, b"-");
-        io::print_decimal(STDOUT_FILENO, 4294967296 - (v as u64));
-    }
-}
-
 fn point(p: Point) {
-    io::write_all(STDOUT_FILENO, b" (");
-    signed(p.x);
-    io::write_all(STDOUT_FILENO, b", ");
-    signed(p.y);
-    io::write_all(STDOUT_FILENO, b")\n");
+    show::text(b" (");
+    show::integer(p.x);
+    show::text(b", ");
+    show::integer(p.y);
+    show::text(b")\n");
 }
 
 fn anchor(label: &[u8], found: Anchor) {
-    io::write_all(STDOUT_FILENO, label);
+    show::text(label);
     match found {
         Anchor::At(p) => {
-            io::write_all(STDOUT_FILENO, b":");
+            show::text(b":");
             point(p);
         }
         Anchor::Absent => {
-            io::write_all(STDOUT_FILENO, b": none\n");
+            show::text(b": none\n");
         }
     }
 }
 
 fn mark(label: &[u8], t: &[u8], k: usize) {
-    io::write_all(STDOUT_FILENO, label);
+    show::text(label);
     match mark_array::mark_of(t, k) {
         Mark::Of(class, p) => {
-            io::write_all(STDOUT_FILENO, b": class ");
-            io::print_decimal(STDOUT_FILENO, class as u64);
+            show::text(b": class ");
+            show::natural(class as u64);
             point(p);
         }
         Mark::Absent => {
-            io::write_all(STDOUT_FILENO, b": none\n");
+            show::text(b": none\n");
         }
     }
 }

@@ -11,8 +11,8 @@ Inv-loop label kind s n₀ t5 n = n ≤ length s
 abbrev μ-loop : tie.MeasureT-loop
 μ-loop label kind s n₀ t5 n = length s - n
 
-write-all-requires : tie.Need-write-all-requires Inv-loop μ-loop
-write-all-requires c κs = search needs
+text-requires : tie.Need-text-requires Inv-loop μ-loop
+text-requires c κs = search needs
 
 loop-holds : tie.Need-loop-holds Inv-loop μ-loop
 loop-holds c = search needs
@@ -47,11 +47,11 @@ passes-requires-2 c κs = search needs
 sign-requires-2 : tie.Need-sign-requires-2 Inv-loop μ-loop
 sign-requires-2 c κs = search needs
 
-slice-aggregate-write-all : tie.Need-slice-aggregate-write-all Inv-loop μ-loop
-slice-aggregate-write-all c = search needs
+slice-aggregate-text : tie.Need-slice-aggregate-text Inv-loop μ-loop
+slice-aggregate-text c = search needs
 
-write-all-requires-2 : tie.Need-write-all-requires-2 Inv-loop μ-loop
-write-all-requires-2 c κs = search needs
+text-requires-2 : tie.Need-text-requires-2 Inv-loop μ-loop
+text-requires-2 c κs = search needs
 
 returns : tie.Need-returns Inv-loop μ-loop
 returns c = search needs
@@ -62,7 +62,7 @@ cut-spec =
     (tie.spec
     Inv-loop
     μ-loop
-    write-all-requires
+    text-requires
     loop-holds
     sub-passes
     part-passes-start
@@ -74,6 +74,6 @@ cut-spec =
     loop-again
     passes-requires-2
     sign-requires-2
-    slice-aggregate-write-all
-    write-all-requires-2
+    slice-aggregate-text
+    text-requires-2
     returns)

@@ -4,17 +4,17 @@ use borrow.Author.Needs.{needs}
 use Rattle.tables_run.proofs.lists.sorts.Statement.{statement}
 use Rattle.tables_run.proofs.lists.sorts.Tie as tie
 
-write-all-requires : tie.Need-write-all-requires
-write-all-requires c κs = search needs
+text-requires : tie.Need-text-requires
+text-requires c κs = search needs
 
 good-at-requires : tie.Need-good-at-requires
 good-at-requires c κs = search needs
 
-slice-aggregate-write-all : tie.Need-slice-aggregate-write-all
-slice-aggregate-write-all c = search needs
+slice-aggregate-text : tie.Need-slice-aggregate-text
+slice-aggregate-text c = search needs
 
-write-all-requires-2 : tie.Need-write-all-requires-2
-write-all-requires-2 c κs = search needs
+text-requires-2 : tie.Need-text-requires-2
+text-requires-2 c κs = search needs
 
 class-requires : tie.Need-class-requires
 class-requires c κs = let t = c .before .before in sym (t .before .good-at .ensures) ∙ t .if1 .taken
@@ -25,17 +25,17 @@ class-requires-2 c κs = let t = c .before .before .before in sym (t .before .go
 class-requires-3 : tie.Need-class-requires-3
 class-requires-3 c κs = let t = c .before .before .before .before in sym (t .before .good-at .ensures) ∙ t .if1 .taken
 
-slice-aggregate-write-all-2 : tie.Need-slice-aggregate-write-all-2
-slice-aggregate-write-all-2 c = search needs
+slice-aggregate-text-2 : tie.Need-slice-aggregate-text-2
+slice-aggregate-text-2 c = search needs
 
-write-all-requires-3 : tie.Need-write-all-requires-3
-write-all-requires-3 c κs = search needs
+text-requires-3 : tie.Need-text-requires-3
+text-requires-3 c κs = search needs
 
-slice-aggregate-write-all-3 : tie.Need-slice-aggregate-write-all-3
-slice-aggregate-write-all-3 c = search needs
+slice-aggregate-text-3 : tie.Need-slice-aggregate-text-3
+slice-aggregate-text-3 c = search needs
 
-write-all-requires-4 : tie.Need-write-all-requires-4
-write-all-requires-4 c κs = search needs
+text-requires-4 : tie.Need-text-requires-4
+text-requires-4 c κs = search needs
 
 returns : tie.Need-returns
 returns c = search needs
@@ -47,16 +47,16 @@ pub sorts-spec : {M : Type 1} → statement M
 sorts-spec =
     tie.close
     (tie.spec
-    write-all-requires
+    text-requires
     good-at-requires
-    slice-aggregate-write-all
-    write-all-requires-2
+    slice-aggregate-text
+    text-requires-2
     class-requires
     class-requires-2
     class-requires-3
-    slice-aggregate-write-all-2
-    write-all-requires-3
-    slice-aggregate-write-all-3
-    write-all-requires-4
+    slice-aggregate-text-2
+    text-requires-3
+    slice-aggregate-text-3
+    text-requires-4
     returns
     returns-2)
