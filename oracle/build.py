@@ -7,7 +7,7 @@ Without a name: oracle and drive; with --ready nothing is built, and what is mis
 
     oracle         the crate's text, with document 01's rules where the two differ by decision: the sum of a coverage
                    index is not cut at 16 bits, and a class matrix is judged record by record
-    oracle-crate   coverage.rs and PairPos2::new as they stand
+    oracle-crate   coverage.rs and PairPos2::new as they stand, kerning through PairKern1 and PairKern2
     oracle-bench   as oracle, without the counting that ends an endless walk, for x86-64 and with the library linked in, for oracle/bench
     drive          makes calls and compares what two programs answer
 

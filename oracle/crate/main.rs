@@ -296,11 +296,11 @@ mod ot {
         }
         #[inline(always)]
         pub fn read_uint(bytes: &[u8], at: usize, width: usize) -> u32 {
-            let mut v = 0;
-            for b in &bytes[at..at + width] {
-                v = v << 8 | u32::from(*b);
+            let b = &bytes[at..at + width];
+            match width {
+                2 => u16::from_be_bytes([b[0], b[1]]).into(),
+                _ => b.iter().fold(0, |v, b| v << 8 | u32::from(*b)),
             }
-            v
         }
         pub(crate) fn glyph_class_cached(c: &coverage::ClassDef, g: GlyphId, _: &MappingCache) -> u32 {
             c.get(g)
@@ -363,6 +363,7 @@ mod ot {
 }
 
 mod frame;
+mod loaded;
 mod refusal;
 mod serve;
 
@@ -373,3 +374,5 @@ fn main() {
 
 #[cfg(bench)]
 mod bench;
+#[cfg(bench)]
+mod cases;

@@ -1,15 +1,11 @@
 //! Answers requests: refusals first, then the crate's text on the crate's own structs.
-use crate::budget::Budget;
 use crate::buffer::{self, Buffer, GlyphInfo, GlyphPosition};
 use crate::frame::*;
+use crate::loaded::{coverage, Loaded};
 use crate::ot;
 use crate::ot::apply::ApplyContext;
-use crate::ot::lookup::coverage::Coverage;
-use crate::ot::lookup::gpos as g;
 use crate::refusal::refusal;
 use crate::{Direction, LayoutData, OtData, Scale};
-use read_fonts::tables::gpos as rf;
-use read_fonts::{FontData, FontRead};
 use std::io::{Read, Write};
 
 pub fn load(line: &[u8], buffer: &mut Buffer) {
@@ -80,53 +76,9 @@ pub fn context<'a>(r: &Request, buffer: &'a mut Buffer) -> ApplyContext<'a> {
 
 /// Applies; None is a decline. Uncovered comes first, as in the crate, where the lookup asks the subtable's coverage before `apply`.
 pub fn apply(r: &Request, ctx: &mut ApplyContext) -> Option<()> {
-    let d = FontData::new(r.subtable);
     let glyph = ctx.buffer.cur(0)?.as_glyph();
-    let budget = Budget::new(usize::MAX, usize::MAX);
-    macro_rules! table {
-        ($t:ty) => {{
-            let t = <$t>::read(d).ok().expect("checked");
-            let index = Coverage::new(t.coverage()).get(glyph)?;
-            (t, index)
-        }};
-    }
-    let mut second = g::SecondGlyph::Unknown;
-    match (r.kind, be16(r.subtable, 0)) {
-        (SINGLE, 1) => {
-            let (t, index) = table!(rf::SinglePosFormat1);
-            g::SinglePos1::new(&t)?.apply(ctx, index)
-        }
-        (SINGLE, 2) => {
-            let (t, index) = table!(rf::SinglePosFormat2);
-            g::SinglePos2::new(&t)?.apply(ctx, index)
-        }
-        (PAIR, 1) => {
-            let (t, index) = table!(rf::PairPosFormat1);
-            g::PairPos1::new(&t, &budget).ok()?.apply(ctx, index, &mut second)
-        }
-        (PAIR, 2) => {
-            let (t, index) = table!(rf::PairPosFormat2);
-            let pairs = g::ClassPairs::new(&t);
-            #[cfg(not(crate_reading))]
-            let pos = g::oracle_pair_pos2(&pairs);
-            #[cfg(crate_reading)]
-            let pos = g::PairPos2::new(&pairs, false, &budget).ok()??;
-            pos.apply(ctx, index, &mut second)
-        }
-        (CURSIVE, 1) => {
-            let (t, index) = table!(rf::CursivePosFormat1);
-            g::CursivePos1::new(&t)?.apply(ctx, index)
-        }
-        (MARK_BASE, 1) => {
-            let (t, index) = table!(rf::MarkBasePosFormat1);
-            g::MarkBasePos1::new(&t)?.apply(ctx, index)
-        }
-        (MARK_LIGATURE, 1) => {
-            let (t, index) = table!(rf::MarkLigPosFormat1);
-            g::MarkLigPos1::new(&t)?.apply(ctx, index)
-        }
-        _ => unreachable!(),
-    }
+    let index = coverage(r.subtable).get(glyph)?;
+    Loaded::new(r.kind, r.subtable, cfg!(crate_reading))?.apply(ctx, index)
 }
 
 /// Finishes with the limit as a parameter; where it is the crate's own, also with the crate's own function, which must leave the same.
