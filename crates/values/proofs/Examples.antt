@@ -54,3 +54,34 @@ table =
 pub computed : map (λ (x : Row). x .done) table ≡ map (λ (x : Row). x .right) table
 unfolding natAt clamp32 floorDiv scaled intAt signed setBelow touches fieldsWork valued withFields worked
 computed = refl
+
+-- ---- at the ends
+-- eight fields, 1 to 8
+abbrev eight : List ℕ
+eight = 0 ∷ 1 ∷ 0 ∷ 2 ∷ 0 ∷ 3 ∷ 0 ∷ 4 ∷ 0 ∷ 5 ∷ 0 ∷ 6 ∷ 0 ∷ 7 ∷ 0 ∷ 8 ∷ []
+
+abbrev pub ends : List Row
+ends =
+    -- no field: nothing, not worked
+    row 0 [] 0 1000 1000 (pos 0) (pos 0) (pos 0) (pos 0) false
+    -- all fields: the placements and one advance, y subtracted; devices never
+    ∷ row 255 eight 1 1000 1000 (pos 1) (pos 2) (pos 3) (pos 0) true
+    ∷ row 255 eight 3 1000 1000 (pos 1) (pos 2) (pos 0) (minus 4) true
+    -- devices alone have not worked
+    ∷ row 240 (0 ∷ 1 ∷ 0 ∷ 1 ∷ 0 ∷ 1 ∷ 0 ∷ 1 ∷ []) 0 1000 1000 (pos 0) (pos 0) (pos 0) (pos 0) false
+    -- the advance that applies is 0, the other is not: it has worked by direction alone
+    ∷ row 12 (0 ∷ 0 ∷ 0 ∷ 20 ∷ []) 0 1000 1000 (pos 0) (pos 0) (pos 0) (pos 0) false
+    ∷ row 12 (0 ∷ 0 ∷ 0 ∷ 20 ∷ []) 2 1000 1000 (pos 0) (pos 0) (pos 0) (minus 20) true
+    -- y advance is scaled first and then subtracted: -3 at half size is -1
+    ∷ row 8 (255 ∷ 253 ∷ []) 2 500 1000 (pos 0) (pos 0) (pos 0) (pos 1) true
+    ∷ []
+
+pub at-ends : map (λ (x : Row). x .done) ends ≡ map (λ (x : Row). x .right) ends
+unfolding natAt clamp32 floorDiv scaled intAt signed setBelow touches fieldsWork valued withFields worked
+at-ends = refl
+
+-- x offset 2147483647 and 1 more, y advance -2147483648 less 1: both stay
+pub saturates : valued 1000 1000 (directionOf 3) (0 ∷ 1 ∷ 0 ∷ 1 ∷ []) 9 (moved (pos 0) (minus 2147483648) (pos 2147483647) (pos 0) noSlot)
+    ≡ moved (pos 0) (minus 2147483648) (pos 2147483647) (pos 0) noSlot
+unfolding natAt clamp32 floorDiv scaled intAt signed setBelow touches valued withFields
+saturates = refl
