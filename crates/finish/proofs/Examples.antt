@@ -26,26 +26,13 @@ pub program : finished LeftToRight 64 true example
 unfolding finished settledUp settled joined cleared update parent walked stepwise clamp32
 program = refl
 
--- two cursive slots that point at each other; right to left the last is settled first
+-- two cursive slots that point at each other, right to left: the last is settled first
 abbrev pair : ℤ → ℤ → ℤ → ℤ → List Slot
 pair c e a b = made 2 c (pos 0) (pos 0) a ∷ made 2 e (pos 0) (pos 0) b ∷ []
 
-pub P10 : finished LeftToRight 64 true (pair (pos 1) (minus 1) (pos 5) (pos 7)) ≡ pair (pos 0) (pos 0) (pos 17) (pos 12)
-unfolding finished settledUp settled joined cleared update parent walked stepwise clamp32
-P10 = refl
-
-pub P10-backward : finished RightToLeft 64 true (pair (pos 1) (minus 1) (pos 5) (pos 7)) ≡ pair (pos 0) (pos 0) (pos 12) (pos 19)
+pub loop-backward : finished RightToLeft 64 true (pair (pos 1) (minus 1) (pos 5) (pos 7)) ≡ pair (pos 0) (pos 0) (pos 12) (pos 19)
 unfolding finished settledDown settled joined cleared update parent walked stepwise clamp32
-P10-backward = refl
-
--- 0 to 1 to 2, at the limit 1 and at the limit 2
-abbrev stair : ℤ → ℤ → ℤ → ℤ → List Slot
-stair c a b e = made 2 c (pos 0) (pos 0) a ∷ made 2 c (pos 0) (pos 0) b ∷ made 0 (pos 0) (pos 0) (pos 0) e ∷ []
-
-pub P11 : (finished LeftToRight 1 true (stair (pos 1) (pos 1) (pos 2) (pos 4)) ≡ stair (pos 0) (pos 3) (pos 2) (pos 4))
-    × (finished LeftToRight 2 true (stair (pos 1) (pos 1) (pos 2) (pos 4)) ≡ stair (pos 0) (pos 7) (pos 6) (pos 4))
-unfolding finished settledUp settled joined cleared update parent walked stepwise clamp32
-P11 = (refl, refl)
+loop-backward = refl
 
 -- a mark after its base, right to left: the advances from after the base to the mark are added
 abbrev far : ℤ → ℤ → List Slot

@@ -3,3 +3,5 @@ pub mod ApplyingLaws
 pub mod NeighbourLaws
 pub mod Demand3
 pub mod Unique
+pub mod Results
+pub mod WorkedSums

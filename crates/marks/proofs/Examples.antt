@@ -1,4 +1,4 @@
--- Worked values: the sums of document 01 that concern marks, and what is easy to get wrong, at lines and a subtable that are written out. They compute.
+-- Worked values: the loop of document 01, and what is easy to get wrong with marks, at lines and a subtable that are written out. They compute.
 -- Assumes nothing.
 use mathlib.Core.Path.{_≡_, refl}
 use mathlib.Core.Bool.{true, false}
@@ -82,9 +82,7 @@ abbrev spot : ℤ → ℤ → Spot
 spot x y = record { x = x; y = y }
 
 pub record Worked : Type 0 where
-  -- P9: three components, equal ids: mark component 2 uses index 1; 5 and 0 use 2
-  pub P9 : map (λ (c : ℕ). componentIndex 3 (part 4 c) (part 4 0)) (2 ∷ 5 ∷ 0 ∷ []) ≡ (1 ∷ 2 ∷ 2 ∷ [])
-  -- other ids, and ids that are 0: the last
+  -- three components: with other ids, and with ids that are 0, the last
   pub other-ids : map (λ (i : ℕ). componentIndex 3 (part 4 2) (part i 0)) (4 ∷ 5 ∷ 0 ∷ []) ≡ (1 ∷ 2 ∷ 2 ∷ [])
   pub no-ids : componentIndex 3 (part 0 2) (part 0 0) ≡ 2
   -- the loop: the walk of slot 1 never ends, on either axis; that of the mark ends at once
@@ -123,7 +121,6 @@ pub worked : Worked
 unfolding ascends firstHolding spanAt spansFrom natAt intAt signed clamp32 floorDiv scaled update parent
     anchorsFor baseIndex markIndex marksGood planOf nearest stopsAt crossWalk walkIn
 worked = record {
-  P9 = refl;
   other-ids = refl;
   no-ids = refl;
   endless-walk = (refl, refl, refl);

@@ -1,4 +1,4 @@
--- P5 and P6 of document 01, and the cases beside them, computed from the definitions: direction 0, s and u alike. Assumes nothing.
+-- The cases beside P5 and P6 of document 01, computed from the definitions: direction 0, s and u alike. Assumes nothing.
 use mathlib.Core.Path.{_≡_, refl}
 use mathlib.Core.Bool.{Bool, true, false}
 use mathlib.Core.List.{List, [], _∷_, map}
@@ -25,7 +25,7 @@ use Rattle.pair.specs.Plan.{planOf}
 use Rattle.pair.specs.Adjustment.{planned, planSaid}
 
 -- the bytes of a table, from its numbers of 16 bits
-abbrev words : List ℕ → List ℕ
+abbrev pub words : List ℕ → List ℕ
 words [] = []
 words (n ∷ ns) = n / 256 ∷ n % 256 ∷ words ns
 
@@ -77,13 +77,8 @@ declines t g s = row t (5 ∷ g ∷ []) 0 (At 1) s (plain 5 ∷ plain g ∷ [])
 -- the cases, one to a line
 abbrev pub table : List Row
 table =
-    -- P5: formats 4 and 0, -50; with 0 in place of -50 it is applied all the same
-    row (pairs 4 0 (1 ∷ 7 ∷ 65486 ∷ [])) (5 ∷ 7 ∷ []) 0 (At 1) (applied 1 (break 0 2 ∷ []) false) (wide 5 (minus 50) ∷ plain 7 ∷ [])
-    ∷ row (pairs 4 0 (1 ∷ 7 ∷ 0 ∷ [])) (5 ∷ 7 ∷ []) 0 (At 1) (applied 1 (concat 0 2 ∷ []) false) (plain 5 ∷ plain 7 ∷ [])
-    -- P6: formats 4 and 4, -50 and 0
-    ∷ row (pairs 4 4 (1 ∷ 7 ∷ 65486 ∷ 0 ∷ [])) (5 ∷ 7 ∷ []) 0 (At 1) (applied 2 (break 0 2 ∷ break 0 3 ∷ []) false) (wide 5 (minus 50) ∷ plain 7 ∷ [])
     -- the values 20 and -50, in this order; and the second one cut, which leaves the first
-    ∷ row (pairs 4 4 (1 ∷ 7 ∷ 20 ∷ 65486 ∷ [])) (5 ∷ 7 ∷ []) 0 (At 1) (applied 2 (break 0 2 ∷ break 0 3 ∷ []) false) (wide 5 (pos 20) ∷ wide 7 (minus 50) ∷ [])
+    row (pairs 4 4 (1 ∷ 7 ∷ 20 ∷ 65486 ∷ [])) (5 ∷ 7 ∷ []) 0 (At 1) (applied 2 (break 0 2 ∷ break 0 3 ∷ []) false) (wide 5 (pos 20) ∷ wide 7 (minus 50) ∷ [])
     ∷ row (pairs 4 4 (1 ∷ 7 ∷ 20 ∷ [])) (5 ∷ 7 ∷ []) 0 (At 1) (applied 2 (break 0 2 ∷ break 0 3 ∷ []) false) (wide 5 (pos 20) ∷ plain 7 ∷ [])
     -- the second is missing, with the bound 3; the first is uncovered besides
     ∷ row (pairs 4 0 (1 ∷ 7 ∷ 65486 ∷ [])) (6 ∷ 5 ∷ 7 ∷ []) 1 (Missing 3) (declined (concat 1 3 ∷ [])) (plain 6 ∷ plain 5 ∷ plain 7 ∷ [])

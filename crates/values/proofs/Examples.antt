@@ -1,4 +1,4 @@
--- P2, P3 and P4 of document 01, a cut record and a value that scales to nothing, computed from the definitions. Assumes nothing.
+-- A cut record and a value that scales to nothing, computed from the definitions. Assumes nothing.
 use mathlib.Core.Path.{_≡_, refl}
 use mathlib.Core.Bool.{Bool, true, false}
 use mathlib.Core.List.{List, [], _∷_, map}
@@ -20,7 +20,7 @@ pub record Made : Type 0 where
   pub slot : Slot
   pub works : Bool
 
--- what the definitions make of a slot that is all 0, and what document 01 says
+-- what the definitions make of a slot that is all 0, and what is right
 pub record Row : Type 0 where
   pub done : Made
   pub right : Made
@@ -34,18 +34,11 @@ row f r n s u xo yo xa ya w =
       right = record { slot = moved xa ya xo yo noSlot; works = w };
     }
 
--- the sums, one to a line
+-- the cases, one to a line
 abbrev pub table : List Row
 table =
-    -- P2: format 5, bytes FF F6 00 14: offset and advance when horizontal, the offset only when vertical
-    row 5 (255 ∷ 246 ∷ 0 ∷ 20 ∷ []) 0 1000 1000 (minus 10) (pos 0) (pos 20) (pos 0) true
-    ∷ row 5 (255 ∷ 246 ∷ 0 ∷ 20 ∷ []) 2 1000 1000 (minus 10) (pos 0) (pos 0) (pos 0) true
-    -- P3: format 4, value 20, when vertical: nothing, not worked
-    ∷ row 4 (0 ∷ 20 ∷ []) 2 1000 1000 (pos 0) (pos 0) (pos 0) (pos 0) false
-    -- P4: format 8, value 20, when vertical: y advance -20
-    ∷ row 8 (0 ∷ 20 ∷ []) 2 1000 1000 (pos 0) (pos 0) (pos 0) (minus 20) true
-    -- P2 cut by one byte: nothing, not worked
-    ∷ row 5 (255 ∷ 246 ∷ 0 ∷ []) 0 1000 1000 (pos 0) (pos 0) (pos 0) (pos 0) false
+    -- x placement -10, x advance 20, cut by one byte: nothing, not worked
+    row 5 (255 ∷ 246 ∷ 0 ∷ []) 0 1000 1000 (pos 0) (pos 0) (pos 0) (pos 0) false
     -- value 1 at the smallest scale: nothing moves, worked
     ∷ row 4 (0 ∷ 1 ∷ []) 0 1 16384 (pos 0) (pos 0) (pos 0) (pos 0) true
     ∷ []
