@@ -5,3 +5,4 @@ pub mod Demand3
 pub mod Unique
 pub mod Results
 pub mod WorkedSums
+pub mod Examples
