@@ -1,3 +1,4 @@
 pub mod SaidLaws
 pub mod OutcomeLaws
 pub mod TestLaws
+pub mod Examples

@@ -1,5 +1,4 @@
--- Sums worked by hand, computed from the definitions: P7 and P8 of document 01, and the case from bottom to top. Assumes nothing.
-use mathlib.Core.Bool.{true}
+-- Sums worked by hand, computed from the definitions: reversals, and the case from bottom to top. Assumes nothing.
 use mathlib.Core.List.{List, [], _∷_}
 use mathlib.Core.Path.{_≡_, refl}
 use Prim.Native.Nat.{ℕ}
@@ -9,20 +8,23 @@ use Rattle.ints.specs.BigEndian.{natAt}
 use Rattle.ints.specs.Saturating.{clamp32, minus}
 use Rattle.ints.specs.Scale.{floorDiv, scaled}
 use Rattle.ints.specs.Signed.{intAt, signed}
-use Rattle.counts.specs.Tally.{bit, tally}
 use Rattle.slots.specs.Slot.{Slot}
 use Rattle.slots.specs.Line.{update}
 use Rattle.slots.specs.Parent.{parent}
 use Rattle.slots.specs.declared.axis.Axis.the-variants.{Y}
-use Rattle.slots.specs.declared.axis.Direction.the-variants.{BottomToTop, LeftToRight}
+use Rattle.slots.specs.declared.axis.Direction.the-variants.{BottomToTop, LeftToRight, RightToLeft}
 use Rattle.tables.specs.Anchor.{Spot}
-use Rattle.tables.specs.Spans.{ascends, firstHolding, spanAt, spansFrom}
-use Rattle.answers.specs.declared.Neighbour.the-variants.{At}
-use Rattle.cursive.specs.Attachment.{joinedAt, planned, separatedBy, tied}
-use Rattle.cursive.specs.Chains.{attachedCount, cleared}
-use Rattle.cursive.specs.CursivePos.{cursiveGood, planOf}
+use Rattle.tables.specs.Spans.{firstHolding, spanAt, spansFrom}
+use Rattle.answers.specs.Said.{concat}
+use Rattle.answers.specs.declared.Neighbour.{Neighbour}
+use Rattle.answers.specs.declared.Neighbour.the-variants.{At, Missing}
+use Rattle.cursive.specs.Attachment.{joinedAt, separatedBy, tied}
+use Rattle.cursive.specs.Chains.{attachedCount, chainTo, cleared}
+use Rattle.cursive.specs.CursivePos.{join, Plan, planOf, stop}
 use Rattle.cursive.specs.Reversal.{reversed, reversedIn, turned}
 use Rattle.cursive.proofs.Sound.{SoundChain}
+-- the count behind the reversal, for sums beyond this crate
+unfoldable pub use Rattle.counts.specs.Tally.{bit, tally}
 
 -- a slot of glyph g, with its type and chain, its advances and its offsets
 abbrev glyphSlot : ℕ → ℕ → ℤ → ℤ → ℤ → ℤ → ℤ → Slot
@@ -40,50 +42,12 @@ glyphSlot g type chain xa ya xo yo =
       yOffset = yo;
     }
 
--- covers glyphs 5 and 6: glyph 5 has the exit (500, 20), glyph 6 the entry (30, 5)
-abbrev table : List ℕ
-table =
-    0 ∷ 1 ∷ 0 ∷ 14 ∷ 0 ∷ 2
-    ∷ 0 ∷ 0 ∷ 0 ∷ 22 ∷ 0 ∷ 28 ∷ 0 ∷ 0
-    ∷ 0 ∷ 1 ∷ 0 ∷ 2 ∷ 0 ∷ 5 ∷ 0 ∷ 6
-    ∷ 0 ∷ 1 ∷ 1 ∷ 244 ∷ 0 ∷ 20
-    ∷ 0 ∷ 1 ∷ 0 ∷ 30 ∷ 0 ∷ 5
-    ∷ []
+-- a slot that is attached across a horizontal line
+abbrev hanging : ℤ → ℤ → Slot
+hanging chain y = glyphSlot 5 2 chain (pos 0) (pos 0) (pos 0) y
 
-abbrev P7-before : List Slot
-P7-before = glyphSlot 5 0 (pos 0) (pos 600) (pos 0) (pos 0) (pos 0) ∷ glyphSlot 6 0 (pos 0) (pos 600) (pos 0) (pos 0) (pos 0) ∷ []
-
-pub table-good : cursiveGood table ≡ true
-unfolding natAt ascends spansFrom spanAt
-table-good = refl
-
--- P7: 0 and 1, direction 0, flag clear: slot 0 advance 500; slot 1 advance 570, x offset -30, y offset 15, chain -1
-pub P7 : planned 1000 1000 LeftToRight 0 1 (planOf table P7-before 1 (At 0)) P7-before
-    ≡ glyphSlot 5 0 (pos 0) (pos 500) (pos 0) (pos 0) (pos 0) ∷ glyphSlot 6 2 (minus 1) (pos 570) (pos 0) (minus 30) (pos 15) ∷ []
-unfolding planOf natAt intAt signed spansFrom spanAt firstHolding joinedAt tied separatedBy reversed reversedIn turned cleared attachedCount tally bit update parent scaled floorDiv clamp32
-P7 = refl
-
-abbrev spotAt : ℤ → ℤ → Spot
-spotAt x y = record { x = x; y = y }
-
-abbrev P8-before : List Slot
-P8-before =
-    glyphSlot 4 0 (pos 0) (pos 600) (pos 0) (pos 0) (pos 0)
-    ∷ glyphSlot 5 2 (minus 1) (pos 600) (pos 0) (pos 0) (pos 8)
-    ∷ glyphSlot 6 0 (pos 0) (pos 600) (pos 0) (pos 0) (pos 0)
-    ∷ []
-
--- P8: direction 0, three slots, RIGHT_TO_LEFT set, 1 attaching to 2, slot 1 cursive with chain -1 and y offset 8: slot 0 ends with y offset -8 and chain 1
-pub P8 : joinedAt 1000 1000 LeftToRight 1 1 2 (spotAt (pos 500) (pos 20)) (spotAt (pos 30) (pos 5)) P8-before
-    ≡ glyphSlot 4 2 (pos 1) (pos 600) (pos 0) (pos 0) (minus 8)
-    ∷ glyphSlot 5 2 (pos 1) (pos 500) (pos 0) (pos 0) (minus 15)
-    ∷ glyphSlot 6 0 (pos 0) (pos 570) (pos 0) (minus 30) (pos 0)
-    ∷ []
-unfolding joinedAt tied separatedBy reversed reversedIn turned cleared attachedCount tally bit update parent scaled floorDiv clamp32
-P8 = refl
-
--- its old chain, from slot 1 to slot 0, is sound
-pub P8-sound : SoundChain P8-before 1 2 (0 ∷ [])
+-- the old chain that P8 reverses, from slot 1 to slot 0, is sound
+pub P8-sound : SoundChain (hanging (pos 0) (pos 0) ∷ hanging (minus 1) (pos 8) ∷ hanging (pos 0) (pos 0) ∷ []) 1 2 (0 ∷ [])
 unfolding parent
 P8-sound =
     record {
@@ -91,10 +55,6 @@ P8-sound =
       distinct = ((λ e. omega arith, tt), (tt, tt));
       not-new = (λ e. omega arith, tt);
     }
-
--- a slot that is attached across a horizontal line
-abbrev hanging : ℤ → ℤ → Slot
-hanging chain y = glyphSlot 5 2 chain (pos 0) (pos 0) (pos 0) y
 
 -- two levels deep: 2 hangs on 1, and 1 on 0; afterwards 0 hangs on 1, and 1 on 2, with the offsets that 1 and 2 had, negated
 pub deep : reversed Y (hanging (pos 0) (pos 1) ∷ hanging (minus 1) (pos 2) ∷ hanging (minus 1) (pos 4) ∷ hanging (pos 0) (pos 8) ∷ []) 2 3
@@ -108,9 +68,67 @@ pub looping : reversed Y (hanging (pos 1) (pos 5) ∷ hanging (minus 1) (pos 7) 
 unfolding reversed reversedIn turned cleared attachedCount tally bit update parent clamp32
 looping = refl
 
+abbrev spotAt : ℤ → ℤ → Spot
+spotAt x y = record { x = x; y = y }
+
 -- bottom to top, flag clear, exit (20, 500), entry (5, 30): slot 0 is pulled back by 500, and slot 1's y advance is the entry's y alone
 pub bottom-to-top : joinedAt 1000 1000 BottomToTop 0 0 1 (spotAt (pos 20) (pos 500)) (spotAt (pos 5) (pos 30))
     (glyphSlot 5 0 (pos 0) (pos 0) (pos 600) (pos 0) (pos 0) ∷ glyphSlot 6 0 (pos 0) (pos 0) (pos 600) (pos 0) (pos 7) ∷ [])
     ≡ glyphSlot 5 0 (pos 0) (pos 0) (pos 100) (pos 0) (minus 500) ∷ glyphSlot 6 2 (minus 1) (pos 0) (pos 30) (pos 15) (pos 7) ∷ []
 unfolding joinedAt tied separatedBy reversed reversedIn turned cleared attachedCount tally bit update parent scaled floorDiv clamp32
 bottom-to-top = refl
+
+-- ---- at the ends
+-- covers glyphs 5 and 6: 5 has an exit anchor alone, 6 an entry anchor alone; both lead to the anchor (3, 4)
+abbrev halves : List ℕ
+halves =
+    0 ∷ 1 ∷ 0 ∷ 14 ∷ 0 ∷ 2 ∷ 0 ∷ 0 ∷ 0 ∷ 22 ∷ 0 ∷ 22 ∷ 0 ∷ 0
+    ∷ 0 ∷ 1 ∷ 0 ∷ 2 ∷ 0 ∷ 5 ∷ 0 ∷ 6
+    ∷ 0 ∷ 1 ∷ 0 ∷ 3 ∷ 0 ∷ 4
+    ∷ []
+
+-- the plan for glyph h in slot 1, after glyph g in slot 0
+abbrev after : ℕ → ℕ → Neighbour → Plan
+after g h n = planOf halves (glyphSlot g 0 (pos 0) (pos 0) (pos 0) (pos 0) (pos 0) ∷ glyphSlot h 0 (pos 0) (pos 0) (pos 0) (pos 0) (pos 0) ∷ []) 1 n
+
+-- no entry anchor declines before a missing previous is told of; previous missing, from the end; previous uncovered; no exit anchor; both there
+pub plans : after 5 5 (Missing 0) ∷ after 5 6 (Missing 2) ∷ after 4 6 (At 0) ∷ after 6 6 (At 0) ∷ after 5 6 (At 0) ∷ []
+    ≡ (stop [] ∷ stop (concat 2 2 ∷ []) ∷ stop [] ∷ stop (concat 0 2 ∷ []) ∷ join 0 (spotAt (pos 3) (pos 4)) (spotAt (pos 3) (pos 4)) ∷ [])
+unfolding planOf natAt intAt signed spansFrom spanAt firstHolding
+plans = refl
+
+-- the parent hangs on the child, by type 1: it is separated, whatever its type, and its type byte stays
+pub separates : joinedAt 1000 1000 LeftToRight 0 0 1 (spotAt (pos 500) (pos 20)) (spotAt (pos 30) (pos 5))
+    (glyphSlot 5 1 (pos 1) (pos 600) (pos 0) (pos 0) (pos 9) ∷ glyphSlot 6 0 (pos 0) (pos 600) (pos 0) (pos 0) (pos 0) ∷ [])
+    ≡ glyphSlot 5 1 (pos 0) (pos 500) (pos 0) (pos 0) (pos 0) ∷ glyphSlot 6 2 (minus 1) (pos 570) (pos 0) (minus 30) (pos 15) ∷ []
+unfolding joinedAt tied separatedBy reversed reversedIn turned cleared attachedCount tally bit update parent scaled floorDiv clamp32
+separates = refl
+
+-- right to left, RIGHT_TO_LEFT set among other flags: slot 0, the child, is pulled back by 40 + 10, slot 1's advance is 300 + 7; each of the four numbers is scaled
+-- by itself: at half size the exit y 3 is 2, so that the difference is -2; scaled once it were -1
+pub right-to-left : joinedAt 500 1000 RightToLeft 65535 0 1 (spotAt (pos 80) (pos 3)) (spotAt (pos 600) (pos 0))
+    (glyphSlot 5 0 (pos 0) (pos 600) (pos 0) (pos 10) (pos 1) ∷ glyphSlot 6 0 (pos 0) (pos 500) (pos 0) (pos 7) (pos 1) ∷ [])
+    ≡ glyphSlot 5 2 (pos 1) (pos 550) (pos 0) (minus 40) (minus 2) ∷ glyphSlot 6 0 (pos 0) (pos 307) (pos 0) (pos 7) (pos 1) ∷ []
+unfolding joinedAt tied separatedBy reversed reversedIn turned cleared attachedCount tally bit update parent scaled floorDiv clamp32
+right-to-left = refl
+
+-- a slot of a type, attached across a horizontal line
+abbrev typed : ℕ → ℤ → ℤ → Slot
+typed type chain y = glyphSlot 5 type chain (pos 0) (pos 0) (pos 0) y
+
+-- the cursive bit alone is tested, and the whole type byte is copied; the offset is negated and saturates
+pub type-255 : reversed Y (typed 1 (pos 0) (pos 1) ∷ typed 255 (minus 1) (minus 2147483648) ∷ typed 0 (pos 0) (pos 0) ∷ []) 1 2
+    ≡ typed 255 (pos 1) (pos 2147483647) ∷ typed 255 (pos 0) (minus 2147483648) ∷ typed 0 (pos 0) (pos 0) ∷ []
+unfolding reversed reversedIn turned cleared attachedCount tally bit update parent clamp32
+type-255 = refl
+
+-- a type without the bit is not followed, and keeps its chain; a parent outside the line, and the new parent, only end it at the child
+pub ends-at-child : (reversed Y (typed 0 (pos 0) (pos 1) ∷ typed 1 (minus 1) (pos 8) ∷ []) 1 0 ≡ typed 0 (pos 0) (pos 1) ∷ typed 1 (minus 1) (pos 8) ∷ [])
+    × (reversed Y (typed 0 (pos 0) (pos 1) ∷ typed 2 (minus 32768) (pos 8) ∷ []) 1 0 ≡ typed 0 (pos 0) (pos 1) ∷ typed 2 (pos 0) (pos 8) ∷ [])
+    × (reversed Y (typed 2 (pos 1) (pos 1) ∷ typed 2 (minus 1) (pos 8) ∷ []) 1 0 ≡ typed 2 (pos 1) (pos 1) ∷ typed 2 (pos 0) (pos 8) ∷ [])
+unfolding reversed reversedIn turned cleared attachedCount tally bit update parent clamp32
+ends-at-child = (refl, refl, refl)
+
+-- the distances that a chain of 16 bits holds
+pub reaches : (chainTo 0 32767 ≡ pos 32767) × (chainTo 0 32768 ≡ pos 0) × (chainTo 32768 0 ≡ minus 32768) × (chainTo 32769 0 ≡ pos 0)
+reaches = (refl, refl, refl, refl)

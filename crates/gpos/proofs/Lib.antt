@@ -3,3 +3,6 @@ pub mod ApplyingLaws
 pub mod NeighbourLaws
 pub mod Demand3
 pub mod Unique
+pub mod Results
+pub mod WorkedSums
+pub mod Examples

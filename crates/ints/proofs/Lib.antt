@@ -5,3 +5,4 @@ pub mod SizeLaws
 pub mod SaturatingLaws
 pub mod ScaleLaws
 pub mod SumsLaws
+pub mod Examples

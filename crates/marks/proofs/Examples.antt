@@ -1,4 +1,4 @@
--- Worked values: the sums of document 01 that concern marks, and what is easy to get wrong, at lines and a subtable that are written out. They compute.
+-- Worked values: the loop of document 01, and what is easy to get wrong with marks, at lines and a subtable that are written out. They compute.
 -- Assumes nothing.
 use mathlib.Core.Path.{_≡_, refl}
 use mathlib.Core.Bool.{true, false}
@@ -22,7 +22,7 @@ use Rattle.tables.specs.Spans.{ascends, firstHolding, spanAt, spansFrom}
 use Rattle.answers.specs.Said.{break, concat, applied, declined, refused}
 use Rattle.marks.specs.Attachment.{planned}
 use Rattle.marks.specs.MarkPos.{anchorsFor, baseIndex, componentIndex, markIndex, marksGood}
-use Rattle.marks.specs.Plan.{stop, endless, hang, planOf, planSaid}
+use Rattle.marks.specs.Plan.{endless, fits, hang, Plan, planOf, planSaid, stop}
 use Rattle.marks.specs.Search.{accepted, nearest, stopsAt}
 use Rattle.marks.specs.Walk.{crossWalk, NeverEnds, walkIn}
 use Rattle.marks.specs.declared.subtable.Kind.the-variants.{Base, Ligature}
@@ -82,9 +82,7 @@ abbrev spot : ℤ → ℤ → Spot
 spot x y = record { x = x; y = y }
 
 pub record Worked : Type 0 where
-  -- P9: three components, equal ids: mark component 2 uses index 1; 5 and 0 use 2
-  pub P9 : map (λ (c : ℕ). componentIndex 3 (part 4 c) (part 4 0)) (2 ∷ 5 ∷ 0 ∷ []) ≡ (1 ∷ 2 ∷ 2 ∷ [])
-  -- other ids, and ids that are 0: the last
+  -- three components: with other ids, and with ids that are 0, the last
   pub other-ids : map (λ (i : ℕ). componentIndex 3 (part 4 2) (part i 0)) (4 ∷ 5 ∷ 0 ∷ []) ≡ (1 ∷ 2 ∷ 2 ∷ [])
   pub no-ids : componentIndex 3 (part 0 2) (part 0 0) ≡ 2
   -- the loop: the walk of slot 1 never ends, on either axis; that of the mark ends at once
@@ -123,7 +121,6 @@ pub worked : Worked
 unfolding ascends firstHolding spanAt spansFrom natAt intAt signed clamp32 floorDiv scaled update parent
     anchorsFor baseIndex markIndex marksGood planOf nearest stopsAt crossWalk walkIn
 worked = record {
-  P9 = refl;
   other-ids = refl;
   no-ids = refl;
   endless-walk = (refl, refl, refl);
@@ -143,4 +140,57 @@ worked = record {
   across-y = refl;
   across-x = refl;
   passes = refl;
+}
+
+-- ---- at the ends
+-- a MarkLigPos subtable: glyph 9 is a mark of this class, glyph 5 a ligature with this component table; the mark array is at this offset
+abbrev ligature : ℕ → ℕ → List ℕ → List ℕ
+ligature array class components =
+    words (1 ∷ 12 ∷ 18 ∷ 1 ∷ array ∷ 36 ∷ 1 ∷ 1 ∷ 9 ∷ 1 ∷ 1 ∷ 5 ∷ 1 ∷ class ∷ 6 ∷ 1 ∷ 10 ∷ 20 ∷ 1 ∷ 4 ∷ components)
+
+-- two components, with anchors at x 100 and 200
+abbrev two : List ℕ
+two = 2 ∷ 6 ∷ 12 ∷ 1 ∷ 100 ∷ 0 ∷ 1 ∷ 200 ∷ 0 ∷ []
+
+-- the plan for a mark of id 4 and this component after a ligature of this id
+abbrev onto : List ℕ → ℕ → ℕ → Plan
+onto t i c = planOf Ligature Y t (glyphAt 5 i 0 1 0 (pos 0) (pos 0) ∷ glyphAt 9 4 c 2 0 (pos 0) (pos 0) ∷ []) 1
+
+abbrev at : ℕ → Plan
+at x = hang 0 (spot (pos x) (pos 0)) (spot (pos 10) (pos 20)) (pos 0)
+
+-- the plan for the mark alone, by coverages at these offsets: at 12 that of the mark, at 18 one that is empty
+abbrev alone : ℕ → ℕ → Plan
+alone marks bases = planOf Base Y (words (1 ∷ marks ∷ bases ∷ 1 ∷ 0 ∷ 0 ∷ 1 ∷ 1 ∷ 9 ∷ 1 ∷ 0 ∷ [])) (part 0 0 ∷ []) 0
+
+pub record Ends : Type 0 where
+  -- ids equal and not 0: the mark's own component, at most the last; component 0 or another id: the last
+  pub components : map (onto (ligature 24 0 two) 4) (1 ∷ 2 ∷ 15 ∷ 0 ∷ []) ≡ (at 100 ∷ at 200 ∷ at 200 ∷ at 200 ∷ [])
+  pub another-id : onto (ligature 24 0 two) 3 1 ≡ at 200
+  -- no component: concat, also where the mark array is missing; which else is a decline, as are a cut component table and a class not below the class count
+  pub no-component : map (λ (a : ℕ). onto (ligature a 0 (0 ∷ [])) 4 1) (24 ∷ 0 ∷ []) ≡ (stop (concat 0 2 ∷ []) ∷ stop (concat 0 2 ∷ []) ∷ [])
+  pub missing-parts : onto (ligature 0 0 two) 4 1 ∷ onto (ligature 24 0 (2 ∷ 6 ∷ [])) 4 1 ∷ onto (ligature 24 1 two) 4 1 ∷ [] ≡ (stop [] ∷ stop [] ∷ stop [] ∷ [])
+  -- a base coverage of offset 0 declines before the search, an empty one does search; an uncovered mark declines first of all
+  pub coverages : alone 12 0 ∷ alone 12 18 ∷ alone 18 18 ∷ alone 0 18 ∷ [] ≡ (stop [] ∷ stop (concat 0 1 ∷ []) ∷ stop [] ∷ stop [] ∷ [])
+  -- a multiplied glyph with a component above 0 in slot 0 is accepted as a base, not as a ligature
+  pub first-slot : (accepted Base (glyphAt 5 4 3 5 0 (pos 0) (pos 0) ∷ []) 0 ≡ true) × (accepted Ligature (glyphAt 5 4 3 5 0 (pos 0) (pos 0) ∷ []) 0 ≡ false)
+  -- of the type the walk tests the cursive bit alone: 254 has it, 253 has not
+  pub by-bit : map (λ (t : ℕ). crossWalk Y (hanging 0 (pos 0) (pos 5) ∷ hanging t (negsuc 0) (pos 7) ∷ []) 1) (254 ∷ 253 ∷ []) ≡ (some (pos 12) ∷ some (pos 7) ∷ [])
+  -- a tail that leads into the loop never ends either; by type 1 it is not followed
+  pub tail : map (λ (t : ℕ). crossWalk Y (hanging 2 (pos 1) (pos 5) ∷ hanging 2 (negsuc 0) (pos 7) ∷ hanging t (negsuc 0) (pos 9) ∷ []) 2) (2 ∷ 1 ∷ []) ≡ (none ∷ some (pos 9) ∷ [])
+  -- a base 32,768 slots before the mark can be reached, one farther can't
+  pub far : map (λ (b : ℕ). fits 40000 b) (7232 ∷ 7231 ∷ []) ≡ (true ∷ false ∷ [])
+
+pub ends : Ends
+unfolding firstHolding spanAt spansFrom natAt intAt signed clamp32 parent anchorsFor baseIndex markIndex planOf nearest stopsAt crossWalk walkIn
+ends = record {
+  components = refl;
+  another-id = refl;
+  no-component = refl;
+  missing-parts = refl;
+  coverages = refl;
+  first-slot = (refl, refl);
+  by-bit = refl;
+  tail = refl;
+  far = refl;
 }

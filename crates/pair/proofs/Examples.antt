@@ -1,4 +1,4 @@
--- P5 and P6 of document 01, and the cases beside them, computed from the definitions: direction 0, s and u alike. Assumes nothing.
+-- The cases beside P5 and P6 of document 01, computed from the definitions: direction 0, s and u alike. Assumes nothing.
 use mathlib.Core.Path.{_≡_, refl}
 use mathlib.Core.Bool.{Bool, true, false}
 use mathlib.Core.List.{List, [], _∷_, map}
@@ -25,7 +25,7 @@ use Rattle.pair.specs.Plan.{planOf}
 use Rattle.pair.specs.Adjustment.{planned, planSaid}
 
 -- the bytes of a table, from its numbers of 16 bits
-abbrev words : List ℕ → List ℕ
+abbrev pub words : List ℕ → List ℕ
 words [] = []
 words (n ∷ ns) = n / 256 ∷ n % 256 ∷ words ns
 
@@ -77,13 +77,8 @@ declines t g s = row t (5 ∷ g ∷ []) 0 (At 1) s (plain 5 ∷ plain g ∷ [])
 -- the cases, one to a line
 abbrev pub table : List Row
 table =
-    -- P5: formats 4 and 0, -50; with 0 in place of -50 it is applied all the same
-    row (pairs 4 0 (1 ∷ 7 ∷ 65486 ∷ [])) (5 ∷ 7 ∷ []) 0 (At 1) (applied 1 (break 0 2 ∷ []) false) (wide 5 (minus 50) ∷ plain 7 ∷ [])
-    ∷ row (pairs 4 0 (1 ∷ 7 ∷ 0 ∷ [])) (5 ∷ 7 ∷ []) 0 (At 1) (applied 1 (concat 0 2 ∷ []) false) (plain 5 ∷ plain 7 ∷ [])
-    -- P6: formats 4 and 4, -50 and 0
-    ∷ row (pairs 4 4 (1 ∷ 7 ∷ 65486 ∷ 0 ∷ [])) (5 ∷ 7 ∷ []) 0 (At 1) (applied 2 (break 0 2 ∷ break 0 3 ∷ []) false) (wide 5 (minus 50) ∷ plain 7 ∷ [])
     -- the values 20 and -50, in this order; and the second one cut, which leaves the first
-    ∷ row (pairs 4 4 (1 ∷ 7 ∷ 20 ∷ 65486 ∷ [])) (5 ∷ 7 ∷ []) 0 (At 1) (applied 2 (break 0 2 ∷ break 0 3 ∷ []) false) (wide 5 (pos 20) ∷ wide 7 (minus 50) ∷ [])
+    row (pairs 4 4 (1 ∷ 7 ∷ 20 ∷ 65486 ∷ [])) (5 ∷ 7 ∷ []) 0 (At 1) (applied 2 (break 0 2 ∷ break 0 3 ∷ []) false) (wide 5 (pos 20) ∷ wide 7 (minus 50) ∷ [])
     ∷ row (pairs 4 4 (1 ∷ 7 ∷ 20 ∷ [])) (5 ∷ 7 ∷ []) 0 (At 1) (applied 2 (break 0 2 ∷ break 0 3 ∷ []) false) (wide 5 (pos 20) ∷ plain 7 ∷ [])
     -- the second is missing, with the bound 3; the first is uncovered besides
     ∷ row (pairs 4 0 (1 ∷ 7 ∷ 65486 ∷ [])) (6 ∷ 5 ∷ 7 ∷ []) 1 (Missing 3) (declined (concat 1 3 ∷ [])) (plain 6 ∷ plain 5 ∷ plain 7 ∷ [])
@@ -106,3 +101,35 @@ table =
 pub computed : map (λ (x : Row). x .done) table ≡ map (λ (x : Row). x .right) table
 unfolding natAt clamp32 floorDiv scaled intAt signed update ascends firstHolding spanAt spansFrom setBelow touches fieldsWork valued withFields worked headerGood classesGood pairGood probeIn planOf
 computed = refl
+
+-- ---- at the ends
+-- format 2 without class lists, so that every glyph is of class 0: one record, of these value formats, for glyph 5 and any second
+abbrev classless : ℕ → ℕ → ℕ → ℕ → List ℕ
+classless f₁ f₂ n v = words (2 ∷ 18 ∷ f₁ ∷ f₂ ∷ 0 ∷ 0 ∷ n ∷ 1 ∷ v ∷ 1 ∷ 1 ∷ 5 ∷ [])
+
+abbrev pub ends : List Row
+ends =
+    -- a bound is reported as named, even where the range is then backward
+    row (pairs 4 0 (1 ∷ 7 ∷ 65486 ∷ [])) (6 ∷ 5 ∷ []) 1 (Missing 0) (declined (concat 1 0 ∷ [])) (plain 6 ∷ plain 5 ∷ [])
+    -- a slot between the two: the ranges and the next index go by the second
+    ∷ row (pairs 4 0 (1 ∷ 7 ∷ 65486 ∷ [])) (5 ∷ 9 ∷ 7 ∷ []) 0 (At 2) (applied 2 (break 0 3 ∷ []) false) (wide 5 (minus 50) ∷ plain 9 ∷ plain 7 ∷ [])
+    -- no records: the range is empty at once; a count of 1 with none there: cut
+    ∷ declines (pairs 4 0 (0 ∷ [])) 7 (declined (concat 0 2 ∷ []))
+    ∷ declines (pairs 4 0 (1 ∷ [])) 7 (declined [])
+    -- the seconds 9, 7, 8 are probed at 7 first: 9 stands before it and isn't found
+    ∷ declines (pairs 4 0 (3 ∷ 9 ∷ 1 ∷ 7 ∷ 2 ∷ 8 ∷ 3 ∷ [])) 9 (declined (concat 0 2 ∷ []))
+    ∷ row (pairs 4 0 (3 ∷ 9 ∷ 1 ∷ 7 ∷ 2 ∷ 8 ∷ 3 ∷ [])) (5 ∷ 8 ∷ []) 0 (At 1) (applied 1 (break 0 2 ∷ []) false) (wide 5 (pos 3) ∷ plain 8 ∷ [])
+    -- found, and its first value cut: applied, not worked
+    ∷ row (pairs 4 0 (1 ∷ 7 ∷ [])) (5 ∷ 7 ∷ []) 0 (At 1) (applied 1 (concat 0 2 ∷ []) false) (plain 5 ∷ plain 7 ∷ [])
+    -- glyph 6 is covered as index 1 of one pair set: none
+    ∷ row (words (1 ∷ 12 ∷ 4 ∷ 0 ∷ 1 ∷ 20 ∷ 1 ∷ 2 ∷ 5 ∷ 6 ∷ 0 ∷ [])) (6 ∷ 7 ∷ []) 0 (At 1) (declined []) (plain 6 ∷ plain 7 ∷ [])
+    -- a second format of a device alone is not 0: the second break, and past the second glyph
+    ∷ row (classless 0 16 1 9) (5 ∷ 7 ∷ []) 0 (At 1) (applied 2 (concat 0 2 ∷ break 0 3 ∷ []) false) (plain 5 ∷ plain 7 ∷ [])
+    -- class 0 of both: the record; with no first classes it is outside its count
+    ∷ row (classless 4 0 1 9) (5 ∷ 7 ∷ []) 0 (At 1) (applied 1 (break 0 2 ∷ []) false) (wide 5 (pos 9) ∷ plain 7 ∷ [])
+    ∷ declines (classless 4 0 0 9) 7 (declined (concat 0 2 ∷ []))
+    ∷ []
+
+pub at-ends : map (λ (x : Row). x .done) ends ≡ map (λ (x : Row). x .right) ends
+unfolding natAt clamp32 floorDiv scaled intAt signed update ascends firstHolding spanAt spansFrom setBelow touches fieldsWork valued withFields worked headerGood classesGood pairGood probeIn planOf
+at-ends = refl

@@ -88,3 +88,32 @@ pub bad : map singleGood (take 5 one ∷ take 7 two ∷ words (0 ∷ 0 ∷ 4 ∷
     ≡ (false ∷ false ∷ false ∷ false ∷ false ∷ false ∷ [])
 unfolding natAt ascends spanAt spansFrom headerGood singleGood
 bad = refl
+
+-- ---- at the ends
+abbrev pub ends : List Row
+ends =
+    -- coverage offset 0 covers nothing; a count of 0 has no record
+    row (words (1 ∷ 0 ∷ 4 ∷ 20 ∷ [])) 1 (declined []) 0 0 0
+    ∷ row (words (2 ∷ 8 ∷ 4 ∷ 0 ∷ 1 ∷ 1 ∷ 7 ∷ [])) 1 (declined []) 0 0 0
+    -- format 1 has one record for every index, 65,535 too
+    ∷ row (words (1 ∷ 8 ∷ 4 ∷ 20 ∷ 2 ∷ 1 ∷ 7 ∷ 9 ∷ 65535 ∷ [])) 2 (applied 3 [] false) 0 0 20
+    -- format 2: index 8 of a count of 9, whose record is past the end, is applied and does nothing; index 9 declines
+    ∷ row (words (2 ∷ 8 ∷ 4 ∷ 9 ∷ 2 ∷ 1 ∷ 7 ∷ 9 ∷ 8 ∷ [])) 1 (applied 2 [] false) 0 0 0
+    ∷ row (words (2 ∷ 8 ∷ 4 ∷ 9 ∷ 2 ∷ 1 ∷ 6 ∷ 7 ∷ 8 ∷ [])) 1 (declined []) 0 0 0
+    ∷ []
+
+pub at-ends : map (λ (x : Row). x .done) ends ≡ map (λ (x : Row). x .right) ends
+unfolding natAt clamp32 floorDiv scaled intAt signed setBelow touches valued withFields update ascends firstHolding spanAt spansFrom placeFor
+at-ends = refl
+
+-- an offset into the header is read as given: the value format 1 is the coverage's format, and the value, x placement 2, its count
+pub into-header : singled 1000 1000 (directionOf 0) (words (1 ∷ 4 ∷ 1 ∷ 2 ∷ 5 ∷ 7 ∷ [])) 0 (wide 5 0 ∷ [])
+    ≡ withGlyph 5 (moved (pos 0) (pos 0) (pos 2) (pos 0) noSlot) ∷ []
+unfolding natAt clamp32 floorDiv scaled intAt signed setBelow touches valued withFields update firstHolding spanAt spansFrom placeFor
+into-header = refl
+
+-- headers alone, with coverage offset 0 and value format 255, are good; no bytes, and a coverage at the end or past it, are not
+pub good-ends : map singleGood (words (1 ∷ 0 ∷ 255 ∷ []) ∷ words (2 ∷ 0 ∷ 255 ∷ 9 ∷ []) ∷ [] ∷ words (1 ∷ 6 ∷ 4 ∷ []) ∷ words (1 ∷ 65535 ∷ 4 ∷ 0 ∷ []) ∷ [])
+    ≡ (true ∷ true ∷ false ∷ false ∷ false ∷ [])
+unfolding natAt ascends spanAt spansFrom headerGood singleGood
+good-ends = refl

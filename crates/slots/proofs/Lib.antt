@@ -5,3 +5,4 @@ pub mod FieldLaws
 pub mod ParentLaws
 pub mod SearchLaws
 pub mod TurnLaws
+pub mod Examples

@@ -9,6 +9,7 @@ use lib.IntN.{ℤ, pos, negsuc}
 use lib.ListN.{take}
 use Rattle.ints.specs.BigEndian.{natAt}
 use Rattle.ints.specs.Signed.{intAt, signed}
+use Rattle.tables.specs.Part.{childOf}
 use Rattle.tables.specs.Spans.{ascends, firstHolding, spanAt, spansFrom}
 use Rattle.tables.specs.Coverage.{coverageAt, coverageGood, coverageGoodAt, coverageIndex}
 use Rattle.tables.specs.ClassDef.{classAt, classGood, classGoodAt, classOf}
@@ -111,4 +112,48 @@ worked = record {
   mark-zero = refl;
   row = refl;
   row-past = (refl, refl, refl);
+}
+
+-- ---- at the ends
+-- three offsets and a byte: they lead to the last byte, nowhere, and past the end
+abbrev offsets : List ℕ
+offsets = 0 ∷ 6 ∷ 0 ∷ 0 ∷ 0 ∷ 9 ∷ 5 ∷ []
+
+pub record Ends : Type 0 where
+  -- coverage: an empty list is good and covers nothing; a header of 3 bytes is cut
+  pub coverage-empty : (coverageGood (words (1 ∷ 0 ∷ [])) ≡ true) × (coverageIndex (words (1 ∷ 0 ∷ [])) 0 ≡ Not) × (coverageGood (0 ∷ 1 ∷ 0 ∷ []) ≡ false)
+  -- one range of all glyphs; a range may start right after the one before; after glyph 65,535 none can follow
+  pub coverage-all : (coverageGood (words (2 ∷ 1 ∷ 0 ∷ 65535 ∷ 0 ∷ [])) ≡ true) × (coverageIndex (words (2 ∷ 1 ∷ 0 ∷ 65535 ∷ 0 ∷ [])) 65535 ≡ At 65535)
+  pub coverage-next : map coverageGood (words (2 ∷ 2 ∷ 5 ∷ 9 ∷ 0 ∷ 10 ∷ 10 ∷ 5 ∷ []) ∷ words (2 ∷ 2 ∷ 65535 ∷ 65535 ∷ 0 ∷ 0 ∷ 0 ∷ 1 ∷ []) ∷ []) ≡ (true ∷ false ∷ [])
+  -- class lists: no classes in 6 bytes are good, 5 bytes are cut; formats 0 and 3 are unknown; ranges that share a glyph are not ascending
+  pub class-ends : map classGood (words (1 ∷ 7 ∷ 0 ∷ []) ∷ take 5 (words (1 ∷ 7 ∷ 0 ∷ [])) ∷ words (0 ∷ 0 ∷ 0 ∷ []) ∷ words (3 ∷ 0 ∷ 0 ∷ [])
+      ∷ words (2 ∷ 2 ∷ 5 ∷ 9 ∷ 1 ∷ 9 ∷ 9 ∷ 1 ∷ []) ∷ [])
+      ≡ (true ∷ false ∷ false ∷ false ∷ false ∷ [])
+  -- an array may run past the last glyph
+  pub class-last : (classGood (words (1 ∷ 65535 ∷ 2 ∷ 8 ∷ 9 ∷ [])) ≡ true) × (map (classOf (words (1 ∷ 65535 ∷ 2 ∷ 8 ∷ 9 ∷ []))) (65534 ∷ 65535 ∷ []) ≡ (0 ∷ 8 ∷ []))
+  -- a list whose offset is the end of the subtable, or past it, is cut
+  pub offset-ends : (map (coverageGoodAt glyphs) (14 ∷ 65535 ∷ []) ≡ (false ∷ false ∷ [])) × (map (classGoodAt array) (14 ∷ 65535 ∷ []) ≡ (false ∷ false ∷ []))
+  -- offsets one by one: to the last byte, 0, one past the end, past the count, cut
+  pub children : (map (childOf offsets 0 3) (0 ∷ 1 ∷ 2 ∷ []) ≡ ((5 ∷ []) ∷ [] ∷ [] ∷ [])) × (childOf offsets 0 1 1 ≡ []) × (childOf offsets 0 9 3 ≡ [])
+  -- an anchor of format 2 with its coordinates but not its last byte is none; bytes past its own don't matter; coordinates are signed
+  pub anchor-ends : map anchorOf (take 7 (words (2 ∷ 1 ∷ 1 ∷ 1 ∷ [])) ∷ words (1 ∷ 32768 ∷ 32767 ∷ 9 ∷ []) ∷ (0 ∷ []) ∷ [])
+      ≡ (none ∷ some (spot (negsuc 32767) (pos 32767)) ∷ none ∷ [])
+  -- a mark record whose last byte is cut, one whose anchor is cut, and a mark array of one byte
+  pub marks-cut : (markOf (take 5 marks) 0 ≡ none) × (markOf (take 11 marks) 0 ≡ none) × (markOf (1 ∷ []) 0 ≡ none)
+  -- rows: none; rows without columns; a count of one byte
+  pub rows-ends : (rowsOf (words (0 ∷ [])) 9 ≡ Of 0) × (rowsOf (words (7 ∷ [])) 0 ≡ Of 7) × (rowsOf (0 ∷ []) 0 ≡ Absent)
+
+pub ends : Ends
+unfolding ascends firstHolding spanAt spansFrom natAt intAt signed
+ends = record {
+  coverage-empty = (refl, refl, refl);
+  coverage-all = (refl, refl);
+  coverage-next = refl;
+  class-ends = refl;
+  class-last = (refl, refl);
+  offset-ends = (refl, refl);
+  children = (refl, refl, refl);
+  anchor-ends = refl;
+  marks-cut = (refl, refl, refl);
+  rows-ends = (refl, refl, refl);
 }

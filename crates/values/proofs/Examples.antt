@@ -1,4 +1,4 @@
--- P2, P3 and P4 of document 01, a cut record and a value that scales to nothing, computed from the definitions. Assumes nothing.
+-- A cut record and a value that scales to nothing, computed from the definitions. Assumes nothing.
 use mathlib.Core.Path.{_≡_, refl}
 use mathlib.Core.Bool.{Bool, true, false}
 use mathlib.Core.List.{List, [], _∷_, map}
@@ -20,7 +20,7 @@ pub record Made : Type 0 where
   pub slot : Slot
   pub works : Bool
 
--- what the definitions make of a slot that is all 0, and what document 01 says
+-- what the definitions make of a slot that is all 0, and what is right
 pub record Row : Type 0 where
   pub done : Made
   pub right : Made
@@ -34,18 +34,11 @@ row f r n s u xo yo xa ya w =
       right = record { slot = moved xa ya xo yo noSlot; works = w };
     }
 
--- the sums, one to a line
+-- the cases, one to a line
 abbrev pub table : List Row
 table =
-    -- P2: format 5, bytes FF F6 00 14: offset and advance when horizontal, the offset only when vertical
-    row 5 (255 ∷ 246 ∷ 0 ∷ 20 ∷ []) 0 1000 1000 (minus 10) (pos 0) (pos 20) (pos 0) true
-    ∷ row 5 (255 ∷ 246 ∷ 0 ∷ 20 ∷ []) 2 1000 1000 (minus 10) (pos 0) (pos 0) (pos 0) true
-    -- P3: format 4, value 20, when vertical: nothing, not worked
-    ∷ row 4 (0 ∷ 20 ∷ []) 2 1000 1000 (pos 0) (pos 0) (pos 0) (pos 0) false
-    -- P4: format 8, value 20, when vertical: y advance -20
-    ∷ row 8 (0 ∷ 20 ∷ []) 2 1000 1000 (pos 0) (pos 0) (pos 0) (minus 20) true
-    -- P2 cut by one byte: nothing, not worked
-    ∷ row 5 (255 ∷ 246 ∷ 0 ∷ []) 0 1000 1000 (pos 0) (pos 0) (pos 0) (pos 0) false
+    -- x placement -10, x advance 20, cut by one byte: nothing, not worked
+    row 5 (255 ∷ 246 ∷ 0 ∷ []) 0 1000 1000 (pos 0) (pos 0) (pos 0) (pos 0) false
     -- value 1 at the smallest scale: nothing moves, worked
     ∷ row 4 (0 ∷ 1 ∷ []) 0 1 16384 (pos 0) (pos 0) (pos 0) (pos 0) true
     ∷ []
@@ -54,3 +47,34 @@ table =
 pub computed : map (λ (x : Row). x .done) table ≡ map (λ (x : Row). x .right) table
 unfolding natAt clamp32 floorDiv scaled intAt signed setBelow touches fieldsWork valued withFields worked
 computed = refl
+
+-- ---- at the ends
+-- eight fields, 1 to 8
+abbrev eight : List ℕ
+eight = 0 ∷ 1 ∷ 0 ∷ 2 ∷ 0 ∷ 3 ∷ 0 ∷ 4 ∷ 0 ∷ 5 ∷ 0 ∷ 6 ∷ 0 ∷ 7 ∷ 0 ∷ 8 ∷ []
+
+abbrev pub ends : List Row
+ends =
+    -- no field: nothing, not worked
+    row 0 [] 0 1000 1000 (pos 0) (pos 0) (pos 0) (pos 0) false
+    -- all fields: the placements and one advance, y subtracted; devices never
+    ∷ row 255 eight 1 1000 1000 (pos 1) (pos 2) (pos 3) (pos 0) true
+    ∷ row 255 eight 3 1000 1000 (pos 1) (pos 2) (pos 0) (minus 4) true
+    -- devices alone have not worked
+    ∷ row 240 (0 ∷ 1 ∷ 0 ∷ 1 ∷ 0 ∷ 1 ∷ 0 ∷ 1 ∷ []) 0 1000 1000 (pos 0) (pos 0) (pos 0) (pos 0) false
+    -- the advance that applies is 0, the other is not: it has worked by direction alone
+    ∷ row 12 (0 ∷ 0 ∷ 0 ∷ 20 ∷ []) 0 1000 1000 (pos 0) (pos 0) (pos 0) (pos 0) false
+    ∷ row 12 (0 ∷ 0 ∷ 0 ∷ 20 ∷ []) 2 1000 1000 (pos 0) (pos 0) (pos 0) (minus 20) true
+    -- y advance is scaled first and then subtracted: -3 at half size is -1
+    ∷ row 8 (255 ∷ 253 ∷ []) 2 500 1000 (pos 0) (pos 0) (pos 0) (pos 1) true
+    ∷ []
+
+pub at-ends : map (λ (x : Row). x .done) ends ≡ map (λ (x : Row). x .right) ends
+unfolding natAt clamp32 floorDiv scaled intAt signed setBelow touches fieldsWork valued withFields worked
+at-ends = refl
+
+-- x offset 2147483647 and 1 more, y advance -2147483648 less 1: both stay
+pub saturates : valued 1000 1000 (directionOf 3) (0 ∷ 1 ∷ 0 ∷ 1 ∷ []) 9 (moved (pos 0) (minus 2147483648) (pos 2147483647) (pos 0) noSlot)
+    ≡ moved (pos 0) (minus 2147483648) (pos 2147483647) (pos 0) noSlot
+unfolding natAt clamp32 floorDiv scaled intAt signed setBelow touches valued withFields
+saturates = refl

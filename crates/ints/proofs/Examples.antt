@@ -1,0 +1,48 @@
+-- Worked values at the ends of ranges, by hand from document 01: bytes, signed numbers, saturating sums, the scale. They compute. Assumes nothing.
+use mathlib.Core.Path.{_≡_, refl}
+use mathlib.Core.List.{List, [], _∷_, map}
+use Prim.Native.Nat.{ℕ}
+use lib.IntN.{ℤ, pos}
+use Rattle.ints.specs.BigEndian.{digits, natAt}
+use Rattle.ints.specs.Saturating.{clamp32, less, minus, negated, plus}
+use Rattle.ints.specs.Scale.{floorDiv, scaled}
+use Rattle.ints.specs.Signed.{intAt, pattern, signed}
+
+-- the least and the greatest number of 32 bits
+abbrev least : ℤ
+least = minus 2147483648
+
+abbrev greatest : ℤ
+greatest = pos 2147483647
+
+pub record Worked : Type 0 where
+  -- the highest byte comes first; what is past the end reads as 0
+  pub big-endian : (natAt 2 (1 ∷ 2 ∷ 3 ∷ []) 1 ≡ 515) × (natAt 4 (255 ∷ 0 ∷ 0 ∷ 1 ∷ []) 0 ≡ 4278190081) × (natAt 2 (1 ∷ []) 0 ≡ 256)
+  pub to-bytes : digits 4 (pattern 4 (minus 2)) ≡ (255 ∷ 255 ∷ 255 ∷ 254 ∷ [])
+  -- two's complement turns negative at the half, at either width
+  pub turns : (map (signed 2) (32767 ∷ 32768 ∷ 65535 ∷ []) ≡ (pos 32767 ∷ minus 32768 ∷ minus 1 ∷ []))
+      × (map (signed 4) (2147483647 ∷ 2147483648 ∷ []) ≡ (greatest ∷ least ∷ []))
+  pub chain-bytes : intAt 2 (128 ∷ 0 ∷ []) 0 ≡ minus 32768
+  -- sums and negations stop at the ends of 32 bits, and go up to them
+  pub stops : (plus greatest (pos 1) ≡ greatest) × (plus least (minus 1) ≡ least) × (negated least ≡ greatest) × (plus greatest (pos 0) ≡ greatest)
+  -- a subtraction saturates once: it is not the addition of a saturated negation
+  pub once : (less (minus 1) least ≡ greatest) × (plus (minus 1) (negated least) ≡ pos 2147483646)
+  -- the scale: at 1 / 16 the ties 8, -8, 24 and -24 go up, -9 goes down, 7 to 0
+  pub ties : map (λ (v : ℤ). scaled v 1 16) (pos 8 ∷ minus 8 ∷ pos 24 ∷ minus 24 ∷ minus 9 ∷ pos 7 ∷ [])
+      ≡ (pos 1 ∷ pos 0 ∷ pos 2 ∷ minus 1 ∷ minus 1 ∷ pos 0 ∷ [])
+  -- the largest scale is 2,048; the smallest makes 8,192 a half, which goes up, and 8,191 nothing
+  pub ends : (map (λ (v : ℤ). scaled v 32768 16) (minus 32768 ∷ pos 32767 ∷ []) ≡ (minus 67108864 ∷ pos 67106816 ∷ []))
+      × (map (λ (v : ℤ). scaled v 1 16384) (pos 8192 ∷ pos 8191 ∷ minus 8192 ∷ minus 8193 ∷ []) ≡ (pos 1 ∷ pos 0 ∷ pos 0 ∷ minus 1 ∷ []))
+
+pub worked : Worked
+unfolding digits natAt pattern signed intAt clamp32 floorDiv scaled
+worked = record {
+  big-endian = (refl, refl, refl);
+  to-bytes = refl;
+  turns = (refl, refl);
+  chain-bytes = refl;
+  stops = (refl, refl, refl, refl);
+  once = (refl, refl);
+  ties = refl;
+  ends = (refl, refl);
+}

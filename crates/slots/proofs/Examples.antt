@@ -1,0 +1,88 @@
+-- Worked values by hand from document 01: a slot's bytes, the ranges of its fields, the line's length, parents, starting. They compute. Assumes nothing.
+use mathlib.Core.Bool.{Bool, true, false}
+use mathlib.Core.List.{List, [], _∷_, map}
+use mathlib.Core.Path.{_≡_, refl}
+use Prim.Native.Nat.{ℕ, zero, suc}
+use lib.IntN.{ℤ, pos}
+use Rattle.ints.specs.BigEndian.{digits, natAt}
+use Rattle.ints.specs.Saturating.{minus}
+use Rattle.ints.specs.Signed.{intAt, pattern, signed}
+use Rattle.slots.specs.Checks.{misshapen, outOfRange, some, unranged}
+use Rattle.slots.specs.Fields.{attached, flagIn, withByte}
+use Rattle.slots.specs.Line.{bytes, slots, slotsN}
+use Rattle.slots.specs.Parent.{parent}
+use Rattle.slots.specs.Slot.{bytesOf, noSlot, Slot, slotOf}
+use Rattle.slots.specs.Start.{started}
+use Rattle.slots.specs.declared.fields.ByteField.{ByteField}
+use Rattle.slots.specs.declared.fields.ByteField.the-variants.{LigatureId, Component, Flags, AttachType}
+use Rattle.slots.specs.declared.fields.Flag.the-variants.{Seen, Mark, Multiplied}
+use Rattle.slots.specs.declared.parent.Parent.{Parent}
+use Rattle.slots.specs.declared.parent.Parent.the-variants.{None, Outside, At}
+
+-- 24 bytes with every field at an end of its range, or beside it
+abbrev full : List ℕ
+full =
+    1 ∷ 2 ∷ 7 ∷ 15 ∷ 7 ∷ 255 ∷ 128 ∷ 0
+    ∷ 127 ∷ 255 ∷ 255 ∷ 255 ∷ 128 ∷ 0 ∷ 0 ∷ 0
+    ∷ 255 ∷ 255 ∷ 255 ∷ 255 ∷ 0 ∷ 0 ∷ 1 ∷ 0
+    ∷ []
+
+-- the same as a slot, with this type and chain
+abbrev fullSlot : ℕ → ℤ → Slot
+fullSlot t c =
+    record {
+      glyph = 258;
+      ligatureId = 7;
+      component = 15;
+      flags = 7;
+      attachType = t;
+      chain = c;
+      xAdvance = pos 2147483647;
+      yAdvance = minus 2147483648;
+      xOffset = minus 1;
+      yOffset = pos 256;
+    }
+
+-- n zero bytes
+abbrev zeros : ℕ → List ℕ
+zeros zero = []
+zeros (suc n) = 0 ∷ zeros n
+
+-- is a slot with one byte at n, all else 0, out of range?
+abbrev out : ByteField → ℕ → Bool
+out f n = outOfRange (withByte f n noSlot)
+
+-- the parent of slot 1 of three, by its chain
+abbrev parentAt : ℤ → Parent
+parentAt c = parent (noSlot ∷ attached 2 c noSlot ∷ noSlot ∷ []) 1
+
+pub record Worked : Type 0 where
+  -- the table of fields, both ways
+  pub fields : (slotOf full ≡ fullSlot 255 (minus 32768)) × (bytesOf (fullSlot 255 (minus 32768)) ≡ full)
+  -- bit 0 seen, bit 1 mark, bit 2 multiplied
+  pub flags-are : (map (flagIn Seen) (1 ∷ 6 ∷ []) ≡ (true ∷ false ∷ [])) × (map (flagIn Mark) (2 ∷ 5 ∷ []) ≡ (true ∷ false ∷ []))
+      × (map (flagIn Multiplied) (4 ∷ 3 ∷ []) ≡ (true ∷ false ∷ []))
+  -- refusal 1: an empty line is whole; so is one slot, one byte more or less is not
+  pub lengths : map (λ (n : ℕ). misshapen (zeros n)) (0 ∷ 23 ∷ 24 ∷ 25 ∷ 48 ∷ []) ≡ (false ∷ true ∷ false ∷ true ∷ false ∷ [])
+  -- refusal 4: id 7, component 15, flags 7 are in range, one more is not; any type is
+  pub ranges : (map (out LigatureId) (7 ∷ 8 ∷ []) ≡ (false ∷ true ∷ [])) × (map (out Component) (15 ∷ 16 ∷ []) ≡ (false ∷ true ∷ []))
+      × (map (out Flags) (7 ∷ 8 ∷ []) ≡ (false ∷ true ∷ [])) × (map (out AttachType) (0 ∷ 3 ∷ 255 ∷ []) ≡ (false ∷ false ∷ false ∷ []))
+  -- it looks at every slot, the last too
+  pub last-slot : unranged (bytes (noSlot ∷ withByte Flags 8 noSlot ∷ [])) ≡ true
+  -- chain 0 is not attached; a parent is in the line from slot 0 to the last, and else outside, however far
+  pub parents : map parentAt (pos 0 ∷ minus 1 ∷ pos 1 ∷ minus 2 ∷ pos 2 ∷ minus 32768 ∷ pos 32767 ∷ [])
+      ≡ (None ∷ At 0 ∷ At 2 ∷ Outside ∷ Outside ∷ Outside ∷ Outside ∷ [])
+  -- starting clears chain and type, and nothing else; an empty line stays empty
+  pub starts : (started (slots full) ≡ fullSlot 0 (pos 0) ∷ []) × (started (slots []) ≡ [])
+
+pub worked : Worked
+unfolding digits natAt pattern signed intAt slotOf bytesOf slotsN slots bytes some parent
+worked = record {
+  fields = (refl, refl);
+  flags-are = (refl, refl, refl);
+  lengths = refl;
+  ranges = (refl, refl, refl, refl);
+  last-slot = refl;
+  parents = refl;
+  starts = (refl, refl);
+}
