@@ -7,8 +7,9 @@
  * GPOS subtable at one glyph, or finishes the line:
  *
  *     gpos_start(line, len);                          forget old attachments
- *     for each lookup, subtable and glyph in turn:
- *         gpos_single, gpos_pair, gpos_cursive, gpos_mark_base or gpos_mark_ligature
+ *     for each lookup, from index 0 on:
+ *         try its subtables in order, by gpos_single, gpos_pair, gpos_cursive, gpos_mark_base or gpos_mark_ligature:
+ *         the first that applies ends the turn, and its answer says at which index to go on; if none does, go on at the next slot
  *     gpos_finish(line, len, direction, GPOS_NESTING_LIMIT, attached);
  *
  * after which each slot has its advances and offsets, and no slot is attached any more.
@@ -114,7 +115,8 @@ enum { GPOS_APPLIED = 1, GPOS_DECLINED = 2, GPOS_REFUSED = 3 };
 enum { GPOS_BREAK = 1, GPOS_CONCAT = 2 };
 
 /* The glyphs from start up to end, end not included, lean on each other: a line broken there (GPOS_BREAK), or texts shaped apart and put together there
- * (GPOS_CONCAT), would look different. A range is as the lookup names it, and may reach past the line's end. */
+ * (GPOS_CONCAT), would look different. A range is as the lookup names it: it may reach past the line's end, and with a bound for a missing glyph it may be empty or even have
+ * its end before its start. */
 typedef struct {
     uint32_t kind;
     size_t start;
@@ -136,11 +138,13 @@ _Static_assert(sizeof(gpos_hazard) == 24 && sizeof(gpos_answer) == 72, "the layo
 #endif
 
 /* Single adjustment (lookup type 1): adds a value record to the glyph.
- * Declined where the glyph is uncovered or has no record. */
+ * Declined where the glyph is uncovered or has no record, without a hazard. */
 gpos_answer gpos_single(uint8_t *line, size_t line_len, const uint8_t *subtable, size_t subtable_len, uint32_t direction, uint32_t s, uint32_t u, size_t index);
 
 /* Pair adjustment (lookup type 2): adds value records to the glyph and to the next one that the lookup doesn't skip.
- * second_missing 0: second is that glyph's slot. Any other: there is none, and second is the end of the text that was searched for one. */
+ * second_missing 0: second is that glyph's slot. Any other: there is none, and second is the end of the text that was searched for one.
+ * Declined where the glyph is uncovered or has no pair set, without a hazard; where there is no second glyph or the pair has no record, with GPOS_CONCAT. A pair
+ * whose values are zero is applied. */
 gpos_answer gpos_pair(uint8_t *line, size_t line_len, const uint8_t *subtable, size_t subtable_len, uint32_t direction, uint32_t s, uint32_t u, size_t index,
                       uint32_t second_missing, size_t second);
 
@@ -149,14 +153,18 @@ enum { GPOS_FLAG_RIGHT_TO_LEFT = 1 };
 
 /* Cursive attachment (lookup type 3): joins the glyph's entry anchor to the exit anchor of the previous one that the lookup doesn't skip.
  * previous_missing 0: previous is that glyph's slot. Any other: there is none, and previous is the start of the text that was searched for one. Of the
- * lookup flag only GPOS_FLAG_RIGHT_TO_LEFT is looked at. */
+ * lookup flag only GPOS_FLAG_RIGHT_TO_LEFT is looked at.
+ * Declined where either glyph is uncovered or this one has no entry anchor, without a hazard; where there is no previous glyph or it has no exit anchor, with
+ * GPOS_CONCAT. */
 gpos_answer gpos_cursive(uint8_t *line, size_t line_len, const uint8_t *subtable, size_t subtable_len, uint32_t direction, uint32_t s, uint32_t u, size_t index,
                          uint32_t previous_missing, size_t previous, uint32_t lookup_flag);
 
-/* Mark-to-base attachment (lookup type 4): attaches the mark at index to the nearest base before it that is seen. */
+/* Mark-to-base attachment (lookup type 4): attaches the mark at index to the nearest base before it that is seen.
+ * Declined where the mark is uncovered or an anchor is missing, without a hazard; where no base is found or it is uncovered, with GPOS_CONCAT. */
 gpos_answer gpos_mark_base(uint8_t *line, size_t line_len, const uint8_t *subtable, size_t subtable_len, uint32_t direction, uint32_t s, uint32_t u, size_t index);
 
-/* Mark-to-ligature attachment (lookup type 5): attaches the mark at index to its component of the nearest ligature before it that is seen. */
+/* Mark-to-ligature attachment (lookup type 5): attaches the mark at index to its component of the nearest ligature before it that is seen.
+ * Declined as gpos_mark_base is, and with GPOS_CONCAT where the ligature has no components. */
 gpos_answer gpos_mark_ligature(uint8_t *line, size_t line_len, const uint8_t *subtable, size_t subtable_len, uint32_t direction, uint32_t s, uint32_t u, size_t index);
 
 /* ---- Reading and writing slots, compiled with your code and not part of what is proved */

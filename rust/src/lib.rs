@@ -1,7 +1,7 @@
 //! Glyph positioning (OpenType GPOS) on lines of glyph slots.
 //!
 //! A label is a *line*: up to 1,024 [`Slot`]s of 24 bytes each, as bytes that you lend. A call starts a line, applies one GPOS subtable at one glyph, or finishes
-//! the line. Nothing is allocated, and no call panics: every argument may have any value, and what is out of range is a [`Refusal`].
+//! the line. No call allocates or panics: every argument may have any value, and what is out of range is a [`Refusal`].
 //!
 //! ```no_run
 //! use gpos::{finish, mark_base, start, At, Direction, Outcome, Scale, NESTING_LIMIT};
@@ -119,7 +119,8 @@ pub enum HazardKind {
     Concat,
 }
 
-/// Glyphs that lean on each other. The range is as the lookup names it, and may reach past the line's end.
+/// Glyphs that lean on each other. The range is as the lookup names it: it may reach past the line's end, and with a bound for a missing glyph it may be empty or
+/// even have its end before its start, so don't slice by it unchecked.
 #[derive(Clone, Debug, PartialEq, Eq)]
 #[allow(missing_docs)]
 pub struct Hazard {

@@ -8,6 +8,7 @@ use Rattle.ints.specs.BigEndian.{natAt}
 use Rattle.ints.specs.Saturating.{clamp32, minus}
 use Rattle.ints.specs.Scale.{floorDiv, scaled}
 use Rattle.ints.specs.Signed.{intAt, signed}
+use Rattle.counts.specs.Tally.{bit, tally}
 use Rattle.slots.specs.Slot.{Slot}
 use Rattle.slots.specs.Line.{update}
 use Rattle.slots.specs.Parent.{parent}
@@ -23,8 +24,6 @@ use Rattle.cursive.specs.Chains.{attachedCount, chainTo, cleared}
 use Rattle.cursive.specs.CursivePos.{join, Plan, planOf, stop}
 use Rattle.cursive.specs.Reversal.{reversed, reversedIn, turned}
 use Rattle.cursive.proofs.Sound.{SoundChain}
--- the count behind the reversal, for sums beyond this crate
-unfoldable pub use Rattle.counts.specs.Tally.{bit, tally}
 
 -- a slot of glyph g, with its type and chain, its advances and its offsets
 abbrev glyphSlot : ℕ → ℕ → ℤ → ℤ → ℤ → ℤ → ℤ → Slot

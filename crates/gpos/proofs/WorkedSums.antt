@@ -10,7 +10,7 @@ use Rattle.ints.specs.Saturating.{clamp32, minus}
 use Rattle.ints.specs.Scale.{floorDiv, scaled}
 use Rattle.ints.specs.Signed.{intAt, pattern, signed}
 use Rattle.ints.specs.Sums.{stepwise}
-use Rattle.cursive.proofs.Examples.{bit, tally}
+use Rattle.counts.specs.Tally.{bit, tally}
 use Rattle.slots.specs.Axis.{directionOf}
 use Rattle.slots.specs.Checks.{some}
 use Rattle.slots.specs.Fields.{attached, moved, named}
@@ -22,7 +22,7 @@ use Rattle.values.specs.Format.{setBelow}
 use Rattle.values.specs.Touch.{touches}
 use Rattle.values.specs.Value.{fieldsWork, valued, withFields, worked as recordWorked}
 use Rattle.single.specs.SinglePos.{headerGood as singleHeader, placeFor, singleGood}
-use Rattle.pair.proofs.Examples.{words}
+use Rattle.ints.proofs.Examples.{words}
 use Rattle.pair.specs.PairPos.{classesGood, headerGood as pairHeader, pairGood}
 use Rattle.pair.specs.PairSet.{probeIn}
 use Rattle.pair.specs.Plan.{planOf as pairPlan}

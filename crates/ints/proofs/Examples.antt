@@ -1,12 +1,17 @@
 -- Worked values at the ends of ranges, by hand from document 01: bytes, signed numbers, saturating sums, the scale. They compute. Assumes nothing.
 use mathlib.Core.Path.{_≡_, refl}
 use mathlib.Core.List.{List, [], _∷_, map}
-use Prim.Native.Nat.{ℕ}
+use Prim.Native.Nat.{ℕ, _/_, _%_}
 use lib.IntN.{ℤ, pos}
 use Rattle.ints.specs.BigEndian.{digits, natAt}
 use Rattle.ints.specs.Saturating.{clamp32, less, minus, negated, plus}
 use Rattle.ints.specs.Scale.{floorDiv, scaled}
 use Rattle.ints.specs.Signed.{intAt, pattern, signed}
+
+-- the bytes of a table, from its numbers of 16 bits
+abbrev pub words : List ℕ → List ℕ
+words [] = []
+words (n ∷ ns) = n / 256 ∷ n % 256 ∷ words ns
 
 -- the least and the greatest number of 32 bits
 abbrev least : ℤ

@@ -4,10 +4,11 @@ use mathlib.Core.Path.{_≡_, refl}
 use mathlib.Core.Bool.{true, false}
 use mathlib.Core.List.{List, [], _∷_, map}
 use mathlib.Core.Option.{some, none}
-use Prim.Native.Nat.{ℕ, _/_, _%_}
+use Prim.Native.Nat.{ℕ, _%_}
 use native.Mathlib.Omega.{arith}
 use lib.Dec.{eqb}
 use lib.IntN.{ℤ, pos, negsuc}
+use Rattle.ints.proofs.Examples.{words}
 use Rattle.ints.specs.BigEndian.{natAt}
 use Rattle.ints.specs.Saturating.{clamp32}
 use Rattle.ints.specs.Scale.{floorDiv, scaled}
@@ -27,11 +28,6 @@ use Rattle.marks.specs.Search.{accepted, nearest, stopsAt}
 use Rattle.marks.specs.Walk.{crossWalk, NeverEnds, walkIn}
 use Rattle.marks.specs.declared.subtable.Kind.the-variants.{Base, Ligature}
 use Rattle.marks.proofs.WalkLaws.{refused-never}
-
--- the bytes of a table, from its numbers of 16 bits
-abbrev words : List ℕ → List ℕ
-words [] = []
-words (n ∷ ns) = n / 256 ∷ n % 256 ∷ words ns
 
 -- a slot, by glyph, ligature id, component, flags, type, chain and y offset
 abbrev glyphAt : ℕ → ℕ → ℕ → ℕ → ℕ → ℤ → ℤ → Slot

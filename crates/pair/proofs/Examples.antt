@@ -2,8 +2,9 @@
 use mathlib.Core.Path.{_≡_, refl}
 use mathlib.Core.Bool.{Bool, true, false}
 use mathlib.Core.List.{List, [], _∷_, map}
-use Prim.Native.Nat.{ℕ, _/_, _%_}
+use Prim.Native.Nat.{ℕ}
 use lib.IntN.{ℤ, pos}
+use Rattle.ints.proofs.Examples.{words}
 use Rattle.ints.specs.BigEndian.{natAt}
 use Rattle.ints.specs.Saturating.{clamp32, minus}
 use Rattle.ints.specs.Scale.{floorDiv, scaled}
@@ -23,11 +24,6 @@ use Rattle.pair.specs.PairPos.{classesGood, headerGood, pairGood}
 use Rattle.pair.specs.PairSet.{probeIn}
 use Rattle.pair.specs.Plan.{planOf}
 use Rattle.pair.specs.Adjustment.{planned, planSaid}
-
--- the bytes of a table, from its numbers of 16 bits
-abbrev pub words : List ℕ → List ℕ
-words [] = []
-words (n ∷ ns) = n / 256 ∷ n % 256 ∷ words ns
 
 -- ---- subtables
 -- format 1, by its two value formats: the glyph 5 is covered, the offset of its pair set is `off`, and this pair set stands at byte 18

@@ -2,9 +2,10 @@
 use mathlib.Core.Path.{_≡_, refl}
 use mathlib.Core.Bool.{true, false}
 use mathlib.Core.List.{List, [], _∷_, map}
-use Prim.Native.Nat.{ℕ, _/_, _%_}
+use Prim.Native.Nat.{ℕ}
 use lib.IntN.{pos}
 use lib.ListN.{take}
+use Rattle.ints.proofs.Examples.{words}
 use Rattle.ints.specs.BigEndian.{natAt}
 use Rattle.ints.specs.Saturating.{clamp32}
 use Rattle.ints.specs.Scale.{floorDiv, scaled}
@@ -19,11 +20,6 @@ use Rattle.values.specs.Touch.{touches}
 use Rattle.values.specs.Value.{valued, withFields}
 use Rattle.answers.specs.Said.{Said, applied, declined}
 use Rattle.single.specs.SinglePos.{headerGood, placeFor, singleGood, singleSaid, singled}
-
--- the bytes of a subtable, from its numbers of 16 bits
-abbrev words : List ℕ → List ℕ
-words [] = []
-words (n ∷ ns) = n / 256 ∷ n % 256 ∷ words ns
 
 -- format 1: x advance 20 for glyph 7
 abbrev one : List ℕ

@@ -4,9 +4,10 @@ use mathlib.Core.Path.{_≡_, refl}
 use mathlib.Core.Bool.{true, false}
 use mathlib.Core.List.{List, [], _∷_, map}
 use mathlib.Core.Option.{some, none}
-use Prim.Native.Nat.{ℕ, _/_, _%_}
+use Prim.Native.Nat.{ℕ}
 use lib.IntN.{ℤ, pos, negsuc}
 use lib.ListN.{take}
+use Rattle.ints.proofs.Examples.{words}
 use Rattle.ints.specs.BigEndian.{natAt}
 use Rattle.ints.specs.Signed.{intAt, signed}
 use Rattle.tables.specs.Part.{childOf}
@@ -18,11 +19,6 @@ use Rattle.tables.specs.MarkArray.{MarkSpot, markOf}
 use Rattle.tables.specs.AnchorRows.{anchorIn, rowsOf}
 use Rattle.tables.specs.declared.coverage.Covered.the-variants.{At, Not}
 use Rattle.tables.specs.declared.anchor_rows.Rows.the-variants.{Of, Absent}
-
--- the bytes of a table, from its numbers of 16 bits
-abbrev words : List ℕ → List ℕ
-words [] = []
-words (n ∷ ns) = n / 256 ∷ n % 256 ∷ words ns
 
 abbrev spot : ℤ → ℤ → Spot
 spot x y = record { x = x; y = y }
