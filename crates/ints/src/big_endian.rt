@@ -10,7 +10,7 @@ ghost use Rattle.ints.specs.Signed.{InBytes, intAt, val, withInt};
 pub type Signed = u32;
 
 // A byte, as a wide number.
-fn wide(x: u8) -> u32
+pub fn wide(x: u8) -> u32
     ensures { λ r. ⌜ (r ≡ x) × (r < 256) ⌝ }
 {
     x as u32
