@@ -10,7 +10,7 @@ ghost use Rattle.ints.specs.Signed.{InBytes, intAt, val, withInt};
 pub type Signed = u32;
 
 // A byte, as a wide number.
-fn wide(x: u8) -> u32
+pub fn wide(x: u8) -> u32
     ensures { λ r. ⌜ (r ≡ x) × (r < 256) ⌝ }
 {
     x as u32
@@ -24,13 +24,13 @@ pub fn read_u16(s: &[u8], at: usize) -> u32
     wide(s[at]) * 256 + wide(s[at + 1])
 }
 
-// The signed number in the two bytes at `at`.
+// The signed number in the two bytes at `at`: 2 ^ 15 is added and taken off again. No test on the sign, so that the two bytes stay one load.
 pub fn read_i16(s: &[u8], at: usize) -> Signed
     requires { ⌜ at + 2 ≤ length (now s) ⌝ }
     ensures { λ r. ⌜ (val r ≡ intAt 2 (now (s .entry)) at) × (natAbs (val r) ≤ 32768) ⌝ }
 {
-    let n = read_u16(s, at);
-    if n < 32768 { n } else { n + 4294901760 }
+    let n = (read_u16(s, at) as u64 + 32768) % 65536;
+    ((n + 4294934528) % 4294967296) as u32
 }
 
 // The signed number in the four bytes at `at`.

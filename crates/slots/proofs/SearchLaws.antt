@@ -1,6 +1,6 @@
--- A search from the front: what is asked of the whole is asked of what is left. Assumes nothing.
+-- A search of what is left: of the slot at hand, or of those after it. Assumes nothing.
 use mathlib.Core.Path.{_≡_}
-use mathlib.Core.Bool.{Bool, true, false}
+use mathlib.Core.Bool.{Bool, false, _||_}
 use mathlib.Core.List.{List}
 use Prim.Native.Nat.{ℕ, _+_, _<_, _≤_}
 use native.Mathlib.Numerals.{add-one}
@@ -11,13 +11,9 @@ use Rattle.slots.specs.Line.{slot}
 use Rattle.slots.specs.Checks.{some}
 
 module _ (p : Slot → Bool) (ss : List Slot) (i : ℕ) where
-  pub some-here : i < length ss → p (slot ss i) ≡ true → some p (drop i ss) ≡ true
+  pub some-here : (j : ℕ) → i < length ss → j ≡ i + 1 → some p (drop i ss) ≡ (p (slot ss i) || some p (drop j ss))
   unfolding some
-  some-here h t = rw (drop-cons ss i noSlot h, t)
-
-  pub some-next : i < length ss → p (slot ss i) ≡ false → some p (drop i ss) ≡ some p (drop (i + 1) ss)
-  unfolding some
-  some-next h f = rw (drop-cons ss i noSlot h, f, add-one)
+  some-here j h e = rw (drop-cons ss i noSlot h, e, add-one)
 
   pub some-none : length ss ≤ i → some p (drop i ss) ≡ false
   unfolding some
