@@ -5,10 +5,9 @@ use crate::reversal::reverse;
 use crate::subtable::Decision;
 use crate::subtable::decide;
 use answers::Answer;
-use answers::Hazard;
 use answers::Hazards;
-use answers::Kind;
 use answers::Neighbour;
+use answers::break_range;
 use ints::big_endian::Signed;
 use ints::saturating::sat_add;
 use ints::saturating::sat_neg;
@@ -186,11 +185,7 @@ pub fn attach(
             join(line, d, s, u, flag, i, idx, exit, entry);
             Answer::Applied {
                 next: idx + 1,
-                hazards: Hazards::One(Hazard {
-                    kind: Kind::Break,
-                    start: i,
-                    end: idx + 1,
-                }),
+                hazards: Hazards::One(break_range(i, idx + 1)),
                 attached: true,
             }
         }

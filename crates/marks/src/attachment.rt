@@ -3,9 +3,9 @@ use crate::decision::Decision;
 use crate::decision::decide;
 use crate::subtable::Kind;
 use answers::Answer;
-use answers::Hazard;
 use answers::Hazards;
 use answers::Refusal;
+use answers::break_range;
 use ints::big_endian::Signed;
 use ints::saturating::difference;
 use ints::saturating::sat_add;
@@ -78,11 +78,7 @@ fn passed(idx: usize, b: usize, attached: bool) -> Answer
 {
     Answer::Applied {
         next: idx + 1,
-        hazards: Hazards::One(Hazard {
-            kind: answers::Kind::Break,
-            start: b,
-            end: idx + 1,
-        }),
+        hazards: Hazards::One(break_range(b, idx + 1)),
         attached: attached,
     }
 }
