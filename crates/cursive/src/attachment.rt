@@ -17,6 +17,7 @@ use slots::axis::Axis;
 use slots::axis::Direction;
 use slots::fields::Measure;
 use tables::anchor::Point;
+use tables::anchor::coordinate_on;
 ghost use mathlib.Core.Bool.{true};
 ghost use mathlib.Core.Path.{_≡_};
 ghost use Prim.Native.Nat.{_<_};
@@ -35,10 +36,7 @@ fn scaled_at(p: Point, a: Axis, s: u32, u: u32) -> Signed
     requires { ⌜ Near16 p × InScale s u ⌝ }
     ensures { λ r. ⌜ val r ≡ scaledAt s u a (spotOf p) ⌝ }
 {
-    match a {
-        Axis::X => scale(p.x, s, u),
-        Axis::Y => scale(p.y, s, u),
-    }
+    scale(coordinate_on(p, a), s, u)
 }
 
 // The glyph ends at its anchor.
