@@ -1,4 +1,7 @@
 // What the calls answer, in one place: cores and public calls use the same types. specs/Said.antt gives document 01's words and numbers for each case.
+ghost use mathlib.Core.List.{[], _∷_};
+ghost use mathlib.Core.Path.{_≡_};
+ghost use Rattle.answers.specs.Said.{break, concat, range, ranges, refusalNumber};
 
 // The other glyph of a pair or of a cursive attachment: the slot that the caller names, or none, with the bound that it names instead.
 pub enum Neighbour {
@@ -19,11 +22,40 @@ pub struct Hazard {
     pub end: usize,
 }
 
+// Unsafe to break.
+pub fn break_range(start: usize, end: usize) -> Hazard
+    ensures { λ r. ⌜ range r ≡ break start end ⌝ }
+{
+    Hazard {
+        kind: Kind::Break,
+        start: start,
+        end: end,
+    }
+}
+
+// Unsafe to concatenate.
+pub fn concat_range(start: usize, end: usize) -> Hazard
+    ensures { λ r. ⌜ range r ≡ concat start end ⌝ }
+{
+    Hazard {
+        kind: Kind::Concat,
+        start: start,
+        end: end,
+    }
+}
+
 // In order. A decline has at most one.
 pub enum Hazards {
     None,
     One(Hazard),
     Two(Hazard, Hazard),
+}
+
+// The hazards of a miss: with another glyph in the range, the lookup might have found what it looked for.
+pub fn concat_from(start: usize, end: usize) -> Hazards
+    ensures { λ r. ⌜ ranges r ≡ concat start end ∷ [] ⌝ }
+{
+    Hazards::One(concat_range(start, end))
 }
 
 // Why a call is refused, in the order of document 01's table, 1 to 7.
@@ -42,6 +74,21 @@ pub enum Refusal {
     Subtable,
     // The cross-offset walk of a mark attachment never ends.
     Endless,
+}
+
+// Document 01's number of a refusal.
+pub fn refusal_number(x: Refusal) -> u32
+    ensures { λ r. ⌜ r ≡ refusalNumber x ⌝ }
+{
+    match x {
+        Refusal::Line => 1,
+        Refusal::Direction => 2,
+        Refusal::Number => 3,
+        Refusal::Slot => 4,
+        Refusal::Index => 5,
+        Refusal::Subtable => 6,
+        Refusal::Endless => 7,
+    }
 }
 
 // What an applying call answers.

@@ -3,7 +3,6 @@ use mathlib.Core.Bool.{true}
 use mathlib.Core.List.{List, [], _∷_}
 use mathlib.Core.Path.{_≡_, refl, sym, ap, _∙_}
 use Prim.Native.Nat.{ℕ, _+_}
-use native.Mathlib.Omega.{arith}
 use Rattle.slots.specs.Slot.{Slot}
 use Rattle.slots.specs.Line.{slot}
 use Rattle.slots.specs.declared.axis.Direction.{Direction}
@@ -14,9 +13,6 @@ use Rattle.answers.specs.Said.{applied, break, declined, Range}
 use Rattle.answers.specs.declared.Neighbour.{Neighbour}
 use Rattle.cursive.specs.Attachment.{joinedAt, planned}
 use Rattle.cursive.specs.CursivePos.{fromCovered, indexOf, join, Plan, planOf, planSaid, stop}
-use Rattle.cursive.specs.Decision.{Sound}
-use Rattle.cursive.specs.declared.subtable.Decision.{Decision}
-use Rattle.cursive.specs.declared.subtable.Decision.the-variants.{Join, Stop}
 
 -- what holds of the case that was told of x holds of x
 pub told : {A B : Type 0} (f : A → B) {x y : A} {r : B} → x ≡ y → r ≡ f y → r ≡ f x
@@ -25,11 +21,6 @@ told f e l = l ∙ sym (ap f e)
 -- what a callee found, y, stands for x
 pub found : {A B : Type 0} (f : A → B) {x y : A} {r : B} → y ≡ x → r ≡ f y → r ≡ f x
 found f e l = l ∙ ap f e
-
--- no slot is before slot 0: a decision that is sound there joins nothing, and is sound everywhere
-pub sound-stop : (idx : ℕ) (r : Decision) → Sound 0 r → Sound idx r
-sound-stop idx (Stop hs) s = s
-sound-stop idx (Join i exit entry) s = absurd (omega (arith, s .0))
 
 -- the plan goes by the coverage that code found for the glyph that it read
 pub plan-is : (t : List ℕ) (ss : List Slot) (idx : ℕ) (n : Neighbour) {g : ℕ} {was q : Covered} {r : Plan} → g ≡ slot ss idx .glyph → was ≡ indexOf t g → was ≡ q

@@ -2,7 +2,7 @@
 use mathlib.Core.Bool.{Bool, true, false, not}
 use mathlib.Core.List.{List}
 use mathlib.Core.Path.{_≡_, refl, sym, ap, _∙_}
-use Prim.Native.Nat.{ℕ, zero, suc, _/_, _%_, _<_}
+use Prim.Native.Nat.{ℕ, zero, suc, _<_}
 use native.Mathlib.Omega.{arith}
 use borrow.Author.Tests.{eq-eqb, ltb-true, ne-eqb}
 use lib.Dec.{eqb, ltb}
@@ -13,7 +13,7 @@ use Rattle.ints.specs.Saturating.{negated}
 use Rattle.ints.specs.Signed.{signed, val}
 use Rattle.slots.specs.Slot.{Slot}
 use Rattle.slots.specs.Line.{slot, update}
-use Rattle.slots.specs.Fields.{attached, offset, withChain, withMeasure}
+use Rattle.slots.specs.Fields.{attached, cursiveBit, offset, withChain, withMeasure}
 use Rattle.slots.specs.Parent.{byParent, parent, parentBy, placed}
 use Rattle.slots.specs.declared.axis.Axis.{Axis}
 use Rattle.slots.specs.declared.fields.Measure.the-variants.{Offset}
@@ -21,7 +21,7 @@ use Rattle.slots.specs.declared.parent.Parent.{Parent}
 use Rattle.slots.specs.declared.parent.Parent.the-variants.{None, Outside, At}
 use Rattle.slots.proofs.LineLaws.{length-update, update-other, update-same}
 use Rattle.counts.proofs.TallyLaws.{tally-drop}
-use Rattle.cursive.specs.Chains.{attachedCount, cleared, cursiveBit, isAttached, reach}
+use Rattle.cursive.specs.Chains.{attachedCount, cleared, isAttached, reach}
 use Rattle.cursive.specs.Reversal.{reversed, reversedIn, turned}
 
 -- ---- parents
@@ -185,13 +185,13 @@ module _ (a : Axis) (ss : List Slot) (i p : ℕ) where
 -- ---- the same over code's variables
 module _ (a : Axis) (ss : List Slot) (i p : ℕ) {kind : ℕ} (is : kind ≡ slot ss i .attachType) where
   -- no cursive bit: the line stays
-  pub stays-plain : (kind / 2 % 2 ≡ 1 → ⊥) → ss ≡ reversed a ss i p
-  stays-plain ne = sym (reversed-plain a ss i p (rw is at (ne-eqb (kind / 2 % 2) 1 ne)))
+  pub stays-plain : cursiveBit kind ≡ false → ss ≡ reversed a ss i p
+  stays-plain e = sym (reversed-plain a ss i p (rw is at e))
 
-  module _ (lt : i < length ss) (one : kind / 2 % 2 ≡ 1) {ss₁ : List Slot} (clears : ss₁ ≡ update i (withChain (val 0)) ss) where
-    -- code's test is the bit, and code's 0 clears the chain
+  module _ (lt : i < length ss) (on : cursiveBit kind ≡ true) {ss₁ : List Slot} (clears : ss₁ ≡ update i (withChain (val 0)) ss) where
+    -- the bit is that of the slot's type, and code's 0 clears the chain
     bit : cursiveBit (slot ss i .attachType) ≡ true
-    bit = rw is at (eq-eqb (kind / 2 % 2) 1 one)
+    bit = rw is at on
 
     is-cleared : ss₁ ≡ cleared ss i
     unfolding cleared signed

@@ -8,14 +8,14 @@ use lib.ListN.{length}
 use Rattle.ints.specs.Saturating.{negated}
 use Rattle.slots.specs.Slot.{Slot}
 use Rattle.slots.specs.Line.{slot}
-use Rattle.slots.specs.Fields.{attached, offset, withChain, withMeasure}
+use Rattle.slots.specs.Fields.{attached, cursiveBit, offset, withChain, withMeasure}
 use Rattle.slots.specs.Parent.{parent}
 use Rattle.slots.specs.declared.axis.Axis.{Axis}
 use Rattle.slots.specs.declared.axis.Axis.the-variants.{X, Y}
 use Rattle.slots.specs.declared.fields.Measure.the-variants.{Offset}
 use Rattle.slots.specs.declared.parent.Parent.the-variants.{None, At}
 use Rattle.slots.proofs.LineLaws.{update-other, update-same}
-use Rattle.cursive.specs.Chains.{cleared, cursiveBit, reach}
+use Rattle.cursive.specs.Chains.{cleared, reach}
 use Rattle.cursive.specs.Reversal.{reversed, turned}
 use Rattle.cursive.proofs.BackLaws.{leads-back}
 use Rattle.cursive.proofs.ReversalLaws.{cleared-other, cleared-same, free-chain, length-cleared, length-turned, parent-in, reversed-free, reversed-on}

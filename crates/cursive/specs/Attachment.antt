@@ -17,16 +17,12 @@ use Rattle.slots.specs.declared.axis.Axis.the-variants.{X, Y}
 use Rattle.slots.specs.declared.axis.Direction.{Direction}
 use Rattle.slots.specs.declared.axis.Direction.the-variants.{LeftToRight, RightToLeft, TopToBottom, BottomToTop}
 use Rattle.slots.specs.declared.fields.Measure.the-variants.{Advance, Offset}
-use Rattle.tables.specs.Anchor.{Spot}
+use Rattle.tables.specs.Anchor.{Spot, coordinate}
 use Rattle.cursive.specs.Chains.{chainTo}
 use Rattle.cursive.specs.CursivePos.{Plan, stop, join}
 use Rattle.cursive.specs.Reversal.{reversed}
 
 -- a coordinate of an anchor, scaled by itself
-abbrev pub coordinate : Axis → Spot → ℤ
-coordinate X p = p .x
-coordinate Y p = p .y
-
 abbrev pub scaledAt : ℕ → ℕ → Axis → Spot → ℤ
 scaledAt s u a p = scaled (coordinate a p) s u
 

@@ -1,7 +1,7 @@
 -- Chains as numbers of 16 bits. Assumes nothing.
 use mathlib.Core.Bool.{Bool, not}
 use mathlib.Core.List.{List}
-use Prim.Native.Nat.{ℕ, _/_, _%_}
+use Prim.Native.Nat.{ℕ}
 use lib.Dec.{eqb, ltb}
 use lib.IntN.{ℤ, pos, natAbs, _-ℤ_}
 use lib.ListN.{length}
@@ -19,10 +19,6 @@ reach z = if ltb (mag z) 32768 then z else pos 0
 -- the chain by which a child hangs on a parent
 abbrev pub chainTo : ℕ → ℕ → ℤ
 chainTo child parent = reach (pos parent -ℤ pos child)
-
--- the type has the cursive bit
-abbrev pub cursiveBit : ℕ → Bool
-cursiveBit kind = eqb (kind / 2 % 2) 1
 
 -- the line with slot i unattached
 unfoldable pub cleared : List Slot → ℕ → List Slot

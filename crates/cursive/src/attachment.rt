@@ -5,10 +5,9 @@ use crate::reversal::reverse;
 use crate::subtable::Decision;
 use crate::subtable::decide;
 use answers::Answer;
-use answers::Hazard;
 use answers::Hazards;
-use answers::Kind;
 use answers::Neighbour;
+use answers::break_range;
 use ints::big_endian::Signed;
 use ints::saturating::sat_add;
 use ints::saturating::sat_neg;
@@ -18,6 +17,7 @@ use slots::axis::Axis;
 use slots::axis::Direction;
 use slots::fields::Measure;
 use tables::anchor::Point;
+use tables::anchor::coordinate_on;
 ghost use mathlib.Core.Bool.{true};
 ghost use mathlib.Core.Path.{_≡_};
 ghost use Prim.Native.Nat.{_<_};
@@ -36,10 +36,7 @@ fn scaled_at(p: Point, a: Axis, s: u32, u: u32) -> Signed
     requires { ⌜ Near16 p × InScale s u ⌝ }
     ensures { λ r. ⌜ val r ≡ scaledAt s u a (spotOf p) ⌝ }
 {
-    match a {
-        Axis::X => scale(p.x, s, u),
-        Axis::Y => scale(p.y, s, u),
-    }
+    scale(coordinate_on(p, a), s, u)
 }
 
 // The glyph ends at its anchor.
@@ -186,11 +183,7 @@ pub fn attach(
             join(line, d, s, u, flag, i, idx, exit, entry);
             Answer::Applied {
                 next: idx + 1,
-                hazards: Hazards::One(Hazard {
-                    kind: Kind::Break,
-                    start: i,
-                    end: idx + 1,
-                }),
+                hazards: Hazards::One(break_range(i, idx + 1)),
                 attached: true,
             }
         }

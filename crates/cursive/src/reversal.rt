@@ -18,7 +18,7 @@ pub fn reverse(line: &mut [u8], a: Axis, i: usize, p: usize)
     ensures { λ _. ⌜ slots (now (line .exit)) ≡ reversed a (slots (now (line .entry))) i p ⌝ }
 {
     let kind = slots::fields::get_byte(line, i, ByteField::AttachType);
-    if kind / 2 % 2 != 1 {
+    if !slots::fields::cursive_bit(kind) {
         return;
     }
     let parent = slots::parent::parent_of(line, i);

@@ -1,8 +1,7 @@
 // The CursivePos subtable, format 1: its check, its anchors, and what is to be done for a slot.
-use answers::Hazard;
 use answers::Hazards;
-use answers::Kind;
 use answers::Neighbour;
+use answers::concat_from;
 use ints::big_endian::read_u16;
 use tables::anchor::Anchor;
 use tables::anchor::Point;
@@ -11,11 +10,9 @@ use tables::coverage::Covered;
 ghost use mathlib.Core.Bool.{true};
 ghost use mathlib.Core.Path.{_≡_};
 ghost use Prim.Native.Nat.{_+_, _<_};
-ghost use mathlib.Core.List.{[], _∷_};
 ghost use Rattle.slots.specs.Line.{count, slots};
-ghost use Rattle.answers.specs.Said.{concat};
 ghost use Rattle.tables.specs.Anchor.{AnchorNear, Near16, spot, spotOf};
-ghost use Rattle.cursive.specs.CursivePos.{cursiveGood, fromEntry, fromExit, fromNeighbour, fromPrevious, indexOf, planOf, recordAnchor, stop};
+ghost use Rattle.cursive.specs.CursivePos.{cursiveGood, fromEntry, fromExit, fromNeighbour, fromPrevious, indexOf, planOf, recordAnchor};
 ghost use Rattle.cursive.specs.Decision.{Before, meant, Sound};
 
 // Nothing is to be done, but a hazard to report; or the previous slot is to be joined, by its exit, to this one, by its entry.
@@ -60,24 +57,13 @@ fn record_anchor(t: &[u8], k: usize, side: usize) -> Anchor
     anchor_of(tables::part::child_of(t, 6, 2 * n, 2 * k + side))
 }
 
-// A decline that reports that another glyph might have been joined.
-fn stop_from(start: usize, end: usize) -> Decision
-    ensures { λ r. ⌜ (meant r ≡ stop (concat start end ∷ [])) × Sound 0 r ⌝ }
-{
-    Decision::Stop(Hazards::One(Hazard {
-        kind: Kind::Concat,
-        start: start,
-        end: end,
-    }))
-}
-
 fn from_exit(idx: usize, i: usize, entry: Point, exit: Anchor) -> Decision
     requires { ⌜ (i < idx) × (idx + 1 < 18446744073709551616) × Near16 entry × AnchorNear exit ⌝ }
     ensures { λ r. ⌜ (meant r ≡ fromExit idx i (spotOf entry) (spot exit)) × Sound idx r ⌝ }
 {
     match exit {
         Anchor::At(p) => Decision::Join(i, p, entry),
-        Anchor::Absent => stop_from(i, idx + 1),
+        Anchor::Absent => Decision::Stop(concat_from(i, idx + 1)),
     }
 }
 
@@ -103,7 +89,7 @@ fn from_neighbour(line: &[u8], t: &[u8], idx: usize, previous: Neighbour, entry:
             entry,
             index_of(t, slots::fields::glyph(line, i)),
         ),
-        Neighbour::Missing(f) => stop_from(f, idx + 1),
+        Neighbour::Missing(f) => Decision::Stop(concat_from(f, idx + 1)),
     }
 }
 

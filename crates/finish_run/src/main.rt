@@ -165,7 +165,7 @@ fn show_answer(answer: Done) {
         Done::Done => show::text(b"done, "),
         Done::Refused(r) => {
             show::text(b"refused ");
-            show::natural(show::refusal_number(r));
+            show::natural(answers::refusal_number(r) as u64);
             show::text(b", ");
         }
     }

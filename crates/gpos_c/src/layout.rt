@@ -6,8 +6,8 @@ use answers::Hazards;
 use answers::Kind;
 use answers::Neighbour;
 use answers::Refusal;
+use answers::refusal_number;
 ghost use mathlib.Core.Path.{_≡_};
-ghost use Rattle.answers.specs.Said.{refusalNumber};
 ghost use Rattle.answers.specs.declared.Answer.the-variants.{Applied, Declined, Refused};
 ghost use Rattle.gpos_c.specs.Layout.{kindNumber, hazardOf, noHazard, firstOf, secondOf, countOf, flag, flat, doneNumber, neighbour, set};
 
@@ -46,20 +46,6 @@ pub fn neighbour_of(missing: u32, n: usize) -> Neighbour
         return Neighbour::At(n);
     }
     Neighbour::Missing(n)
-}
-
-fn refusal_number(x: Refusal) -> u32
-    ensures { λ r. ⌜ r ≡ refusalNumber x ⌝ }
-{
-    match x {
-        Refusal::Line => 1,
-        Refusal::Direction => 2,
-        Refusal::Number => 3,
-        Refusal::Slot => 4,
-        Refusal::Index => 5,
-        Refusal::Subtable => 6,
-        Refusal::Endless => 7,
-    }
 }
 
 // 0 where the call is done.

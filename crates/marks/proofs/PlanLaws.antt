@@ -3,7 +3,6 @@ use mathlib.Core.Path.{_≡_, sym, ap, _∙_}
 use mathlib.Core.List.{List, []}
 use mathlib.Core.Option.{Option}
 use Prim.Native.Nat.{ℕ}
-use native.Mathlib.Omega.{arith}
 use borrow.Author.Tests.{eq-eqb, ne-eqb}
 use Rattle.ints.specs.BigEndian.{natAt}
 use Rattle.slots.specs.Slot.{Slot}
@@ -11,12 +10,9 @@ use Rattle.slots.specs.Line.{slot}
 use Rattle.slots.specs.declared.axis.Axis.{Axis}
 use Rattle.tables.specs.declared.coverage.Covered.{Covered}
 use Rattle.tables.specs.declared.coverage.Covered.the-variants.{At, Not}
-use Rattle.marks.specs.Codes.{Sound}
 use Rattle.marks.specs.MarkPos.{markIndex}
 use Rattle.marks.specs.Plan.{stop, planOf, withCovered, withSearch}
 use Rattle.marks.specs.Search.{foundFor}
-use Rattle.marks.specs.declared.decision.Decision.{Decision}
-use Rattle.marks.specs.declared.decision.Decision.the-variants.{Stop, Endless, Hang}
 use Rattle.marks.specs.declared.subtable.Kind.{Kind}
 
 module _ (kind : Kind) (a : Axis) (t : List ℕ) (ss : List Slot) (idx g : ℕ) (read : g ≡ slot ss idx .glyph) (c : Covered) (is : c ≡ markIndex t g) where
@@ -34,9 +30,3 @@ module _ (kind : Kind) (a : Axis) (t : List ℕ) (ss : List Slot) (idx g : ℕ) 
 
     pub plan-search : (o ≡ 0 → ⊥) → (p : Option ℕ) → p ≡ foundFor kind t ss idx → withSearch kind a t ss idx m p ≡ planOf kind a t ss idx
     plan-search h p is-p = sym (by-cover ∙ rw (e, ← read-o, ne-eqb o 0 h, ← is-p))
-
--- a decision that is sound for slot 0 is none to hang, and so sound for every slot
-pub sound-all : (r : Decision) (idx : ℕ) → Sound 0 r → Sound idx r
-sound-all (Stop hs) idx h = tt
-sound-all Endless idx h = tt
-sound-all (Hang b base mark walk) idx h = absurd (omega (arith, h .0))

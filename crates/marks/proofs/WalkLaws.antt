@@ -3,32 +3,32 @@ use mathlib.Core.Path.{_≡_, refl, sym, ap, _∙_}
 use mathlib.Core.Bool.{Bool, true, false}
 use mathlib.Core.List.{List}
 use mathlib.Core.Option.{some, none}
-use Prim.Native.Nat.{ℕ, zero, suc, _-_, _/_, _%_, _≤_, _<_}
+use Prim.Native.Nat.{ℕ, zero, suc, _-_, _≤_, _<_}
 use native.Mathlib.Omega.{arith}
 use lib.Dec.{ltb}
 use lib.IntN.{ℤ, pos, negsuc, _+ℤ_}
 use lib.ListN.{length}
-use borrow.Author.Tests.{eq-eqb, ltb-true, ne-eqb}
+use borrow.Author.Tests.{ltb-true}
 use Rattle.ints.specs.Choice.{if_then_else_}
 use Rattle.ints.specs.Saturating.{plus}
 use Rattle.counts.specs.Steps.{steps}
 use Rattle.counts.proofs.StepsLaws.{never-done}
 use Rattle.slots.specs.Slot.{Slot}
 use Rattle.slots.specs.Line.{slot}
-use Rattle.slots.specs.Fields.{offset}
+use Rattle.slots.specs.Fields.{cursiveBit, offset}
 use Rattle.slots.specs.Parent.{byParent, parent, parentBy, placed}
 use Rattle.slots.specs.declared.axis.Axis.{Axis}
 use Rattle.slots.specs.declared.parent.Parent.{Parent}
 use Rattle.slots.specs.declared.parent.Parent.the-variants.{None, Outside, At}
-use Rattle.marks.specs.Walk.{climb, crossWalk, cursiveBit, endsAt, NeverEnds, next, up, walkIn}
+use Rattle.marks.specs.Walk.{climb, crossWalk, endsAt, NeverEnds, next, up, walkIn}
 
 -- ---- where the walk goes on: t is the type of slot i
 module _ (ss : List Slot) (i t : ℕ) (is : t ≡ slot ss i .attachType) where
-  pub climb-cursive : t / 2 % 2 ≡ 1 → parent ss i ≡ climb ss i
-  climb-cursive h = rw (← is, eq-eqb (t / 2 % 2) 1 h)
+  pub climb-cursive : cursiveBit t ≡ true → parent ss i ≡ climb ss i
+  climb-cursive h = rw (← is, h)
 
-  pub climb-other : (t / 2 % 2 ≡ 1 → ⊥) → None ≡ climb ss i
-  climb-other h = rw (← is, ne-eqb (t / 2 % 2) 1 h)
+  pub climb-other : cursiveBit t ≡ false → None ≡ climb ss i
+  climb-other h = rw (← is, h)
 
 -- it stays in the line
 placed-in : (n j : ℕ) (z : ℤ) → placed n z ≡ At j → j < n

@@ -10,15 +10,10 @@ use Rattle.slots.specs.Slot.{Slot}
 use Rattle.slots.specs.Line.{update}
 use Rattle.slots.specs.Fields.{attached, withChain, withMeasure}
 use Rattle.slots.specs.declared.axis.Axis.{Axis}
-use Rattle.slots.specs.declared.axis.Axis.the-variants.{X, Y}
 use Rattle.slots.specs.declared.axis.Direction.{Direction}
 use Rattle.slots.specs.declared.fields.Measure.the-variants.{Offset}
-use Rattle.tables.specs.Anchor.{Spot}
+use Rattle.tables.specs.Anchor.{Spot, coordinate}
 use Rattle.marks.specs.Plan.{Plan, stop, endless, hang, fits}
-
-abbrev pub coordinate : Axis → Spot → ℤ
-coordinate X p = p .x
-coordinate Y p = p .y
 
 -- base anchor less mark anchor, scaled once
 abbrev pub between : ℕ → ℕ → Axis → Spot → Spot → ℤ

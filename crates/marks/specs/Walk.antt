@@ -3,8 +3,7 @@ use mathlib.Core.Bool.{Bool, true, false}
 use mathlib.Core.List.{List}
 use mathlib.Core.Option.{Option, some, none}
 use mathlib.Core.Path.{_≡_}
-use Prim.Native.Nat.{ℕ, zero, suc, _/_, _%_}
-use lib.Dec.{eqb}
+use Prim.Native.Nat.{ℕ, zero, suc}
 use lib.IntN.{ℤ}
 use lib.ListN.{length}
 use Rattle.ints.specs.Choice.{if_then_else_}
@@ -12,15 +11,11 @@ use Rattle.ints.specs.Saturating.{plus}
 use Rattle.counts.specs.Steps.{steps}
 use Rattle.slots.specs.Slot.{Slot}
 use Rattle.slots.specs.Line.{slot}
-use Rattle.slots.specs.Fields.{offset}
+use Rattle.slots.specs.Fields.{cursiveBit, offset}
 use Rattle.slots.specs.Parent.{byParent, parent}
 use Rattle.slots.specs.declared.axis.Axis.{Axis}
 use Rattle.slots.specs.declared.parent.Parent.{Parent}
 use Rattle.slots.specs.declared.parent.Parent.the-variants.{None}
-
--- the type has the cursive bit
-abbrev pub cursiveBit : ℕ → Bool
-cursiveBit kind = eqb (kind / 2 % 2) 1
 
 -- where the walk goes on from slot i: by a type with the cursive bit to the parent
 abbrev pub climb : List Slot → ℕ → Parent

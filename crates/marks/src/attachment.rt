@@ -3,9 +3,9 @@ use crate::decision::Decision;
 use crate::decision::decide;
 use crate::subtable::Kind;
 use answers::Answer;
-use answers::Hazard;
 use answers::Hazards;
 use answers::Refusal;
+use answers::break_range;
 use ints::big_endian::Signed;
 use ints::saturating::difference;
 use ints::saturating::sat_add;
@@ -15,6 +15,7 @@ use slots::axis::Direction;
 use slots::fields::ByteField;
 use slots::fields::Measure;
 use tables::anchor::Point;
+use tables::anchor::coordinate_on;
 ghost use mathlib.Core.Bool.{true};
 ghost use mathlib.Core.List.{[], _∷_};
 ghost use mathlib.Core.Path.{_≡_};
@@ -35,10 +36,11 @@ fn between_anchors(base: Point, mark: Point, a: Axis, s: u32, u: u32) -> Signed
     requires { ⌜ Near16 base × Near16 mark × InScale s u ⌝ }
     ensures { λ r. ⌜ val r ≡ between s u a (spotOf base) (spotOf mark) ⌝ }
 {
-    match a {
-        Axis::X => scale(difference(base.x, mark.x), s, u),
-        Axis::Y => scale(difference(base.y, mark.y), s, u),
-    }
+    scale(
+        difference(coordinate_on(base, a), coordinate_on(mark, a)),
+        s,
+        u,
+    )
 }
 
 // The mark in slot idx hangs on slot b: type, chain, and both offsets replaced. Across the line the base's walk is added here, and not when finishing.
@@ -78,11 +80,7 @@ fn passed(idx: usize, b: usize, attached: bool) -> Answer
 {
     Answer::Applied {
         next: idx + 1,
-        hazards: Hazards::One(Hazard {
-            kind: answers::Kind::Break,
-            start: b,
-            end: idx + 1,
-        }),
+        hazards: Hazards::One(break_range(b, idx + 1)),
         attached: attached,
     }
 }

@@ -8,23 +8,21 @@ use crate::subtable::base_index;
 use crate::subtable::mark_index;
 use crate::walk::Walk;
 use crate::walk::cross_walk;
-use answers::Hazard;
 use answers::Hazards;
+use answers::concat_from;
 use ints::big_endian::Signed;
 use ints::big_endian::read_u16;
 use slots::axis::Axis;
 use tables::anchor::Point;
 use tables::coverage::Covered;
 ghost use mathlib.Core.Bool.{true};
-ghost use mathlib.Core.List.{[], _∷_};
 ghost use mathlib.Core.Path.{_≡_};
 ghost use Prim.Native.Nat.{_<_};
 ghost use Rattle.slots.specs.Line.{count, slots};
 ghost use Rattle.tables.specs.Anchor.{Near16, spotOf};
-ghost use Rattle.answers.specs.Said.{concat};
 ghost use Rattle.marks.specs.Codes.{anchorsOf, Before, FoundNear, meant, placeOf, Sound, walkOf};
 ghost use Rattle.marks.specs.MarkPos.{marksGood};
-ghost use Rattle.marks.specs.Plan.{planOf, stop, withAnchors, withFound, withSearch, withWalk};
+ghost use Rattle.marks.specs.Plan.{planOf, withAnchors, withFound, withSearch, withWalk};
 
 pub enum Decision {
     // Nothing, with the hazard to report.
@@ -33,17 +31,6 @@ pub enum Decision {
     Endless,
     // The mark is to hang on this slot, by the base's anchor and its own, with the base's walk.
     Hang(usize, Point, Point, Signed),
-}
-
-// A decline that reports that another glyph might have been attached to.
-fn stop_from(start: usize, end: usize) -> Decision
-    ensures { λ r. ⌜ (meant r ≡ stop (concat start end ∷ [])) × Sound 0 r ⌝ }
-{
-    Decision::Stop(Hazards::One(Hazard {
-        kind: answers::Kind::Concat,
-        start: start,
-        end: end,
-    }))
 }
 
 fn with_walk(b: usize, idx: usize, base: Point, mark: Point, walk: Walk) -> Decision
@@ -64,7 +51,7 @@ fn with_anchors(line: &[u8], a: Axis, idx: usize, b: usize, anchors: Found) -> D
     match anchors {
         Found::Both(base, mark) => with_walk(b, idx, base, mark, cross_walk(line, a, b)),
         Found::Missing => Decision::Stop(Hazards::None),
-        Found::Empty => stop_from(b, idx + 1),
+        Found::Empty => Decision::Stop(concat_from(b, idx + 1)),
     }
 }
 
@@ -83,7 +70,7 @@ fn with_found(
 {
     match covered {
         Covered::At(k) => with_anchors(line, a, idx, b, find_anchors(line, t, kind, k, m, idx, b)),
-        Covered::Not => stop_from(b, idx + 1),
+        Covered::Not => Decision::Stop(concat_from(b, idx + 1)),
     }
 }
 
@@ -110,7 +97,7 @@ fn with_search(
             b,
             base_index(t, slots::fields::glyph(line, b)),
         ),
-        Place::Nowhere => stop_from(0, idx + 1),
+        Place::Nowhere => Decision::Stop(concat_from(0, idx + 1)),
     }
 }
 

@@ -22,7 +22,8 @@ fn climb_from(line: &[u8], i: usize) -> Parent
     requires { ⌜ i < count (now line) ⌝ }
     ensures { λ r. ⌜ r ≡ climb (slots (now (line .entry))) i ⌝ }
 {
-    if slots::fields::get_byte(line, i, ByteField::AttachType) / 2 % 2 == 1 {
+    let kind = slots::fields::get_byte(line, i, ByteField::AttachType);
+    if slots::fields::cursive_bit(kind) {
         return slots::parent::parent_of(line, i);
     }
     Parent::None

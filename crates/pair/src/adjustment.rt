@@ -4,8 +4,9 @@ use crate::decision::decide;
 use answers::Answer;
 use answers::Hazard;
 use answers::Hazards;
-use answers::Kind;
 use answers::Neighbour;
+use answers::break_range;
+use answers::concat_range;
 use ints::big_endian::read_u16;
 use slots::axis::Direction;
 use values::format::record_at;
@@ -63,17 +64,9 @@ fn pair_hazard(worked: bool, idx: usize, second: usize) -> Hazard
     ensures { λ r. ⌜ range r ≡ pairHazard worked idx second ⌝ }
 {
     if worked {
-        return Hazard {
-            kind: Kind::Break,
-            start: idx,
-            end: second + 1,
-        };
+        return break_range(idx, second + 1);
     }
-    Hazard {
-        kind: Kind::Concat,
-        start: idx,
-        end: second + 1,
-    }
+    concat_range(idx, second + 1)
 }
 
 // The answer of a pair that was applied: with a second value the next index is past the second glyph.
@@ -83,11 +76,7 @@ fn pair_answer(worked: bool, more: bool, idx: usize, second: usize) -> Answer
 {
     let hazard = pair_hazard(worked, idx, second);
     if more {
-        let past = Hazard {
-            kind: Kind::Break,
-            start: idx,
-            end: second + 2,
-        };
+        let past = break_range(idx, second + 2);
         return Answer::Applied {
             next: second + 1,
             hazards: Hazards::Two(hazard, past),

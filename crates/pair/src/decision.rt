@@ -3,20 +3,17 @@ use crate::pair_set::Probe;
 use crate::pair_set::probe_for;
 use crate::subtable::first_index;
 use crate::subtable::pair_length;
-use answers::Hazard;
 use answers::Hazards;
-use answers::Kind;
 use answers::Neighbour;
+use answers::concat_from;
 use ints::big_endian::read_u16;
 use tables::coverage::Covered;
 ghost use mathlib.Core.Bool.{true};
-ghost use mathlib.Core.List.{[], _∷_};
 ghost use mathlib.Core.Path.{_≡_};
 ghost use Prim.Native.Nat.{_≤_, _<_};
 ghost use lib.ListN.{drop, length};
 ghost use Rattle.slots.specs.Line.{count, slots};
 ghost use Rattle.tables.specs.Part.{tableAt};
-ghost use Rattle.answers.specs.Said.{concat, ranges};
 ghost use Rattle.pair.specs.Codes.{After, meant, Sound};
 ghost use Rattle.pair.specs.PairPos.{pairGood, pairSet, posFormat};
 ghost use Rattle.pair.specs.Plan.{fromClasses, fromNeighbour, fromProbe, fromSecond, fromSet, planOf};
@@ -27,17 +24,6 @@ pub enum Decision {
     Stop(Hazards),
     // The offset of the table that has the two value records, where in it they start, and the second slot.
     Adjust(usize, usize, usize),
-}
-
-// The hazard of a miss: another second glyph might have been found.
-fn concat_from(start: usize, end: usize) -> Hazards
-    ensures { λ r. ⌜ ranges r ≡ concat start end ∷ [] ⌝ }
-{
-    Hazards::One(Hazard {
-        kind: Kind::Concat,
-        start: start,
-        end: end,
-    })
 }
 
 // The offset of the pair set of a coverage index, 0 where there is none.

@@ -7,7 +7,6 @@ pub use numbers::spell;
 pub use printing::done;
 pub use printing::integer;
 pub use printing::natural;
-pub use printing::refusal_number;
 pub use printing::refused;
 pub use printing::slot;
 pub use printing::text;

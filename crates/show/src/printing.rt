@@ -7,10 +7,8 @@ use answers::Done;
 use answers::Refusal;
 use ints::big_endian::Signed;
 use libc::STDOUT_FILENO;
-ghost use mathlib.Core.Path.{_≡_};
 ghost use Prim.Native.Nat.{_<_};
 ghost use Rattle.slots.specs.Line.{count};
-ghost use Rattle.answers.specs.Said.{refusalNumber};
 
 pub fn text(s: &[u8]) {
     io::write_all(STDOUT_FILENO, s);
@@ -36,25 +34,10 @@ pub fn slot(line: &[u8], i: usize)
     text(&space[..n]);
 }
 
-// Document 01's number of a refusal.
-pub fn refusal_number(r: Refusal) -> u64
-    ensures { λ n. ⌜ n ≡ refusalNumber r ⌝ }
-{
-    match r {
-        Refusal::Line => 1,
-        Refusal::Direction => 2,
-        Refusal::Number => 3,
-        Refusal::Slot => 4,
-        Refusal::Index => 5,
-        Refusal::Subtable => 6,
-        Refusal::Endless => 7,
-    }
-}
-
 // A refusal, with its number, as a line.
 pub fn refused(r: Refusal) {
     text(b"refused ");
-    natural(refusal_number(r));
+    natural(answers::refusal_number(r) as u64);
     text(b"\n");
 }
 

@@ -62,6 +62,10 @@ attached t c s =
 abbrev pub withChain : ℤ → Slot → Slot
 withChain c s = attached (s .attachType) c s
 
+-- the type has the cursive bit
+abbrev pub cursiveBit : ℕ → Bool
+cursiveBit kind = eqb (kind / 2 % 2) 1
+
 -- ---- the four fields of one byte
 abbrev pub byteOf : ByteField → Slot → ℕ
 byteOf LigatureId s = s .ligatureId

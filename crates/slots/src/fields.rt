@@ -15,7 +15,7 @@ ghost use lib.Seq.{slice};
 ghost use Rattle.ints.specs.Signed.{InBytes, val};
 ghost use Rattle.slots.specs.Slot.{slotOf, slotSize};
 ghost use Rattle.slots.specs.Line.{count, slot, slots, update};
-ghost use Rattle.slots.specs.Fields.{byteAt, byteOf, flagOf, measure, measureAt, withByte, withChain, withGlyph, withMeasure};
+ghost use Rattle.slots.specs.Fields.{byteAt, byteOf, cursiveBit, flagOf, measure, measureAt, withByte, withChain, withGlyph, withMeasure};
 
 pub const SLOT_SIZE: usize = 24;
 
@@ -131,6 +131,13 @@ pub fn has_flag(line: &[u8], i: usize, f: Flag) -> bool
         Flag::Mark => flags / 2 % 2 == 1,
         Flag::Multiplied => flags / 4 % 2 == 1,
     }
+}
+
+// Has the type the cursive bit?
+pub fn cursive_bit(kind: u8) -> bool
+    ensures { λ r. ⌜ r ≡ cursiveBit kind ⌝ }
+{
+    kind / 2 % 2 == 1
 }
 
 pub fn chain(line: &[u8], i: usize) -> Signed

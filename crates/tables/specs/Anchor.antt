@@ -10,6 +10,8 @@ use lib.ListN.{length}
 use Rattle.ints.specs.BigEndian.{natAt}
 use Rattle.ints.specs.Choice.{if_then_else_}
 use Rattle.ints.specs.Signed.{intAt, val}
+use Rattle.slots.specs.declared.axis.Axis.{Axis}
+use Rattle.slots.specs.declared.axis.Axis.the-variants.{X, Y}
 use Rattle.tables.specs.declared.anchor.Point.{Point}
 use Rattle.tables.specs.declared.anchor.Anchor.{Anchor}
 use Rattle.tables.specs.declared.anchor.Anchor.the-variants.{At, Absent}
@@ -18,6 +20,11 @@ use Rattle.tables.specs.declared.anchor.Anchor.the-variants.{At, Absent}
 pub record Spot : Type 0 where
   pub x : ℤ
   pub y : ℤ
+
+-- its coordinate on an axis
+abbrev pub coordinate : Axis → Spot → ℤ
+coordinate X p = p .x
+coordinate Y p = p .y
 
 -- the format is known, and its 6, 8 or 10 bytes are there
 abbrev pub anchorThere : List ℕ → Bool

@@ -2,12 +2,27 @@
 use ints::big_endian::Signed;
 use ints::big_endian::read_i16;
 use ints::big_endian::read_u16;
+use slots::axis::Axis;
 ghost use mathlib.Core.Path.{_≡_};
-ghost use Rattle.tables.specs.Anchor.{AnchorNear, anchorOf, spot};
+ghost use Prim.Native.Nat.{_≤_};
+ghost use lib.IntN.{natAbs};
+ghost use Rattle.ints.specs.Signed.{val};
+ghost use Rattle.tables.specs.Anchor.{AnchorNear, anchorOf, coordinate, Near16, spot, spotOf};
 
 pub struct Point {
     pub x: Signed,
     pub y: Signed,
+}
+
+// A point's coordinate on an axis.
+pub fn coordinate_on(p: Point, a: Axis) -> Signed
+    requires { ⌜ Near16 p ⌝ }
+    ensures { λ r. ⌜ (val r ≡ coordinate a (spotOf p)) × (natAbs (val r) ≤ 32768) ⌝ }
+{
+    match a {
+        Axis::X => p.x,
+        Axis::Y => p.y,
+    }
 }
 
 pub enum Anchor {

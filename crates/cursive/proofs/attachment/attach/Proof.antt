@@ -31,8 +31,11 @@ join-requires c κs =
 add-t20 : tie.Need-add-t20
 add-t20 c = search needs
 
-add-t22 : tie.Need-add-t22
-add-t22 c = search needs
+add-break-range : tie.Need-add-break-range
+add-break-range c = search needs
+
+break-range-requires : tie.Need-break-range-requires
+break-range-requires c κs = search needs
 
 same-length : tie.Need-same-length
 same-length c = search needs
@@ -50,13 +53,14 @@ same-length-2 c = search needs
 
 returns-2 : tie.Need-returns-2
 returns-2 c =
-    let j = c .before .before in
+    let j = c .before .before .before in
     let k = j .before .before .before in
     let a = k .before .before .before .before .before .before .args in
     let ss = slots (now (a .line)) in
     let w = k .decision2 .given .0 in
-    effect-join (a .s) (a .u) (a .d) (a .flag) (a .idx) (planOf (now (a .t)) ss (a .idx) (a .previous)) ss (w .0) (spotOf (w .1 .0)) (spotOf (w .1 .1 .0)) _
-    (sym (ap meant (k .decision2 .given .1)) ∙ k .before .before .decide .ensures .0) (j .join .ensures)
+    rw (c .break-range .ensures)
+    (effect-join (a .s) (a .u) (a .d) (a .flag) (a .idx) (planOf (now (a .t)) ss (a .idx) (a .previous)) ss (w .0) (spotOf (w .1 .0)) (spotOf (w .1 .1 .0)) _
+    (sym (ap meant (k .decision2 .given .1)) ∙ k .before .before .decide .ensures .0) (j .join .ensures))
 
 pub attach-spec : {M : Type 1} → statement M
 attach-spec =
@@ -67,7 +71,8 @@ attach-spec =
     enum-known-decision-2
     join-requires
     add-t20
-    add-t22
+    add-break-range
+    break-range-requires
     same-length
     returns
     same-length-2

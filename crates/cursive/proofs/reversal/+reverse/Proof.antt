@@ -1,12 +1,15 @@
 -- `cursive::reversal::reverse` meets its contract: each way through it is one equation of `reversed`, and a call that goes on has cleared an attached slot, so
 -- that the number of attached slots falls. Assumes nothing.
 use mathlib.Core.Path.{_≡_, sym, _∙_}
-use Prim.Native.Nat.{ℕ, _/_, _%_, _<_}
+use mathlib.Core.Bool.{true}
+use Prim.Native.Nat.{ℕ, _<_}
 use native.Mathlib.Omega.{arith}
 use borrow.Author.Needs.{needs}
+use borrow.Author.Tests.{not-false, not-true}
 use denote.Ref.{now}
 use lib.ListN.{length}
 use Rattle.slots.specs.Line.{count, slot, slots}
+use Rattle.slots.specs.Fields.{cursiveBit}
 use Rattle.slots.specs.Parent.{parent}
 use Rattle.slots.specs.declared.parent.Parent.the-variants.{At}
 use Rattle.slots.proofs.LineLaws.{length-slots}
@@ -22,6 +25,7 @@ use Rattle.cursive.proofs.chains.chain_back.Reads as chain-back-reads
 use Rattle.cursive.proofs.chains.hang.Reads as hang-reads
 use Rattle.ints.proofs.saturating.sat_neg.Reads as sat-neg-reads
 use Rattle.slots.proofs.fields.chain.Reads as chain-reads
+use Rattle.slots.proofs.fields.cursive_bit.Reads as cursive-bit-reads
 use Rattle.slots.proofs.fields.get.Reads as get-reads
 use Rattle.slots.proofs.fields.get_byte.Reads as get-byte-reads
 use Rattle.slots.proofs.fields.set_chain.Reads as set-chain-reads
@@ -45,6 +49,8 @@ abbrev calls : ℕ → reverse-lts.Claims
 calls t = (
   get-byte-reads.Asked,
   get-byte-reads.Learnt,
+  cursive-bit-reads.Asked,
+  cursive-bit-reads.Learnt,
   parent-of-reads.Asked,
   parent-of-reads.Learnt,
   set-chain-reads.Asked,
@@ -71,7 +77,7 @@ abbrev Begin : ℕ → Type 0
 Begin t = reverse-lts.Start (calls t) (reverse-at t) reverse.Post
 
 abbrev start : (t : ℕ) → Known t → Begin t
-start t k = k .before .before .before .before .before .before .before .before .before
+start t k = k .before .before .before .before .before .before .before .before .before .before
 
 -- the parent's place
 abbrev to : (t : ℕ) → Known t → ℕ
@@ -92,23 +98,26 @@ there t k =
     omega (arith, length-slots l, parent-in (slots l) (start t k .args .i) (to t k) (parent-is t k))
 
 -- the type that was read is the slot's, and has the cursive bit
-kind-is : (t : ℕ) (k : Known t) → k .before .before .before .before .before .before .get-byte .result ≡ slot (slots (now (start t k .args .line))) (start t k .args .i) .attachType
-kind-is t k = k .before .before .before .before .before .before .get-byte .ensures
+kind-is : (t : ℕ) (k : Known t) → k .before .before .before .before .before .before .before .get-byte .result ≡ slot (slots (now (start t k .args .line))) (start t k .args .i) .attachType
+kind-is t k = k .before .before .before .before .before .before .before .get-byte .ensures
 
-bit-is : (t : ℕ) (k : Known t) → k .before .before .before .before .before .before .get-byte .result / 2 % 2 ≡ 1
-bit-is t k = k .before .before .before .before .before .if1 .left
+bit-is : (t : ℕ) (k : Known t) → cursiveBit (k .before .before .before .before .before .before .before .get-byte .result) ≡ true
+bit-is t k = sym (k .before .before .before .before .before .before .cursive-bit .ensures) ∙ not-false _ (k .before .before .before .before .before .if1 .left)
 
 reverse-get-byte-requires : (t : ℕ) → reverse-lts.Need-get-byte-requires (calls t) (reverse-at t) reverse.Post
 reverse-get-byte-requires t c κs = search needs
+
+reverse-cursive-bit-requires : (t : ℕ) → reverse-lts.Need-cursive-bit-requires (calls t) (reverse-at t) reverse.Post
+reverse-cursive-bit-requires t c κs = search needs
 
 reverse-same-length : (t : ℕ) → reverse-lts.Need-same-length (calls t) (reverse-at t) reverse.Post
 reverse-same-length t c = search needs
 
 reverse-returns : (t : ℕ) → reverse-lts.Need-returns (calls t) (reverse-at t) reverse.Post
 reverse-returns t c =
-    let k = c .before in
+    let k = c .before .before in
     let a = k .before .before .before .args in
-    stays-plain (a .a) (slots (now (a .line))) (a .i) (a .p) (k .get-byte .ensures) (c .if1 .taken)
+    stays-plain (a .a) (slots (now (a .line))) (a .i) (a .p) (k .get-byte .ensures) (sym (c .before .cursive-bit .ensures) ∙ not-true _ (c .if1 .taken))
 
 reverse-parent-of-requires : (t : ℕ) → reverse-lts.Need-parent-of-requires (calls t) (reverse-at t) reverse.Post
 reverse-parent-of-requires t c κs = search needs
@@ -171,7 +180,7 @@ reverse-same-length-3 t c = search needs
 reverse-returns-3 : (t : ℕ) → reverse-lts.Need-returns-3 (calls t) (reverse-at t) reverse.Post
 reverse-returns-3 t c =
     let k = c .before .before in
-    let a = k .before .before .before .before .before .before .args in
+    let a = k .before .before .before .before .before .before .before .args in
     sym (reversed-free (a .a) (slots (now (a .line))) (a .i) (a .p) (sym (k .parent-of .ensures) ∙ c .enum-told .given .1))
 
 reverse-same-length-4 : (t : ℕ) → reverse-lts.Need-same-length-4 (calls t) (reverse-at t) reverse.Post
@@ -181,11 +190,12 @@ reverse-returns-4 : (t : ℕ) → reverse-lts.Need-returns-4 (calls t) (reverse-
 reverse-returns-4 t c =
     let w = c .before .before in
     let k = w .before .before .before .before in
-    let g = k .before .before .before in
+    let b = k .before .before .before in
+    let g = b .before in
     let s = g .before .before .before in
     let a = s .args in
-    ends-outside (a .a) (slots (now (a .line))) (a .i) (a .p) (g .get-byte .ensures) (omega (arith, length-slots (now (a .line)), s .pre .1)) (k .before .before .if1 .left)
-    (w .set-chain .ensures) (sym (k .parent-of .ensures) ∙ w .before .before .enum-told2 .given .1)
+    ends-outside (a .a) (slots (now (a .line))) (a .i) (a .p) (g .get-byte .ensures) (omega (arith, length-slots (now (a .line)), s .pre .1))
+    (sym (b .cursive-bit .ensures) ∙ not-false _ (k .before .before .if1 .left)) (w .set-chain .ensures) (sym (k .parent-of .ensures) ∙ w .before .before .enum-told2 .given .1)
 
 reverse-same-length-5 : (t : ℕ) → reverse-lts.Need-same-length-5 (calls t) (reverse-at t) reverse.Post
 reverse-same-length-5 t c = search needs
@@ -204,6 +214,7 @@ reverse-returns-5 t c =
 pub +reverse-spec : {M : Type 1} → statement M
 +reverse-spec = close μ-reverse λ t. reverse-lts.spec (calls t) (reverse-at t) reverse.Post
     (reverse-get-byte-requires t)
+    (reverse-cursive-bit-requires t)
     (reverse-same-length t)
     (reverse-returns t)
     (reverse-parent-of-requires t)

@@ -1,9 +1,9 @@
 -- `cursive::subtable::from_exit` meets its contract: one arm for each case of the exit anchor. Assumes nothing.
-use mathlib.Core.Path.{refl, subst}
+use mathlib.Core.Path.{refl, ap, subst}
 use Rattle.tables.specs.Anchor.{AnchorNear, spot, spotOf}
 use Rattle.tables.specs.declared.anchor.Anchor.{Anchor}
-use Rattle.cursive.specs.CursivePos.{fromExit, Plan}
-use Rattle.cursive.proofs.DecisionLaws.{sound-stop, told}
+use Rattle.cursive.specs.CursivePos.{fromExit, Plan, stop}
+use Rattle.cursive.proofs.DecisionLaws.{told}
 use borrow.Author.Needs.{needs}
 use Rattle.cursive.proofs.subtable.from_exit.Statement.{statement}
 use Rattle.cursive.proofs.subtable.from_exit.Tie as tie
@@ -18,11 +18,11 @@ enum-known-exit c = search needs
 enum-told : tie.Need-enum-told
 enum-told c = search needs
 
-add-stop-from : tie.Need-add-stop-from
-add-stop-from c = search needs
+add-concat-from : tie.Need-add-concat-from
+add-concat-from c = search needs
 
-stop-from-requires : tie.Need-stop-from-requires
-stop-from-requires c κs = search needs
+concat-from-requires : tie.Need-concat-from-requires
+concat-from-requires c κs = search needs
 
 returns : tie.Need-returns
 returns c =
@@ -34,12 +34,9 @@ returns c =
 
 returns-2 : tie.Need-returns-2
 returns-2 c =
-    let s = c .before .before .before in (
-      told (by-exit s) (c .before .enum-told .given .1) (c .stop-from .ensures .0),
-      sound-stop (s .args .idx) (c .stop-from .result) (c .stop-from .ensures .1),
-    )
+    (told (by-exit (c .before .before .before)) (c .before .enum-told .given .1) (ap stop (c .concat-from .ensures)), tt)
 
 pub from-exit-spec : {M : Type 1} → statement M
 from-exit-spec =
     tie.close
-    (tie.spec enum-known-exit enum-told add-stop-from stop-from-requires returns returns-2)
+    (tie.spec enum-known-exit enum-told add-concat-from concat-from-requires returns returns-2)

@@ -1,14 +1,14 @@
 -- `cursive::subtable::from_neighbour` meets its contract: a neighbour that is named is before this slot, and so in the line; else the missing part is
 -- reported. Assumes nothing.
-use mathlib.Core.Path.{subst}
+use mathlib.Core.Path.{ap, subst}
 use native.Mathlib.Omega.{arith}
 use denote.Ref.{now}
 use Rattle.slots.specs.Line.{slots}
 use Rattle.tables.specs.Anchor.{spotOf}
 use Rattle.answers.specs.declared.Neighbour.{Neighbour}
-use Rattle.cursive.specs.CursivePos.{fromNeighbour, fromPrevious, indexOf, Plan}
+use Rattle.cursive.specs.CursivePos.{fromNeighbour, fromPrevious, indexOf, Plan, stop}
 use Rattle.cursive.specs.Decision.{Before}
-use Rattle.cursive.proofs.DecisionLaws.{found, sound-stop, told}
+use Rattle.cursive.proofs.DecisionLaws.{found, told}
 use borrow.Author.Needs.{needs}
 use Rattle.cursive.proofs.subtable.from_neighbour.Statement.{statement}
 use Rattle.cursive.proofs.subtable.from_neighbour.Tie as tie
@@ -37,11 +37,11 @@ from-previous-requires c κs =
 enum-known-previous-2 : tie.Need-enum-known-previous-2
 enum-known-previous-2 c = search needs
 
-add-stop-from : tie.Need-add-stop-from
-add-stop-from c = search needs
+add-concat-from : tie.Need-add-concat-from
+add-concat-from c = search needs
 
-stop-from-requires : tie.Need-stop-from-requires
-stop-from-requires c κs = search needs
+concat-from-requires : tie.Need-concat-from-requires
+concat-from-requires c κs = search needs
 
 returns : tie.Need-returns
 returns c =
@@ -57,10 +57,7 @@ returns c =
 returns-2 : tie.Need-returns-2
 returns-2 c =
     let k = c .before .before in
-    let s = k .before .before .before .before in (
-      told (by-neighbour s) (k .previous2 .given .1) (c .stop-from .ensures .0),
-      sound-stop (s .args .idx) (c .stop-from .result) (c .stop-from .ensures .1),
-    )
+    (told (by-neighbour (k .before .before .before .before)) (k .previous2 .given .1) (ap stop (c .concat-from .ensures)), tt)
 
 pub from-neighbour-spec : {M : Type 1} → statement M
 from-neighbour-spec =
@@ -71,7 +68,7 @@ from-neighbour-spec =
     index-of-requires
     from-previous-requires
     enum-known-previous-2
-    add-stop-from
-    stop-from-requires
+    add-concat-from
+    concat-from-requires
     returns
     returns-2)

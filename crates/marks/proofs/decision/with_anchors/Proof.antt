@@ -4,9 +4,8 @@ use denote.Ref.{now}
 use Rattle.slots.specs.Line.{slots}
 use Rattle.tables.specs.Anchor.{spotOf}
 use Rattle.marks.specs.Codes.{anchorsOf, FoundNear}
-use Rattle.marks.specs.Plan.{withAnchors, withWalk}
+use Rattle.marks.specs.Plan.{stop, withAnchors, withWalk}
 use Rattle.marks.specs.declared.anchors.Found.{Found}
-use Rattle.marks.proofs.PlanLaws.{sound-all}
 use borrow.Author.Needs.{needs}
 use Rattle.marks.proofs.decision.with_anchors.Statement.{statement}
 use Rattle.marks.proofs.decision.with_anchors.Tie as tie
@@ -29,11 +28,11 @@ enum-told c = search needs
 enum-told-2 : tie.Need-enum-told-2
 enum-told-2 c = search needs
 
-add-stop-from : tie.Need-add-stop-from
-add-stop-from c = search needs
+add-concat-from : tie.Need-add-concat-from
+add-concat-from c = search needs
 
-stop-from-requires : tie.Need-stop-from-requires
-stop-from-requires c κs = search needs
+concat-from-requires : tie.Need-concat-from-requires
+concat-from-requires c κs = search needs
 
 returns : tie.Need-returns
 returns c =
@@ -54,9 +53,9 @@ returns-2 c =
 returns-3 : tie.Need-returns-3
 returns-3 c =
     let a = c .before .before .before .before .args in (
-      c .stop-from .ensures .0
+      ap stop (c .concat-from .ensures)
           ∙ sym (ap (λ (x : Found). withAnchors (a .a) (slots (now (a .line))) (a .idx) (a .b) (anchorsOf x)) (c .before .enum-told2 .given .1)),
-      sound-all (c .stop-from .result) (a .idx) (c .stop-from .ensures .1),
+      tt,
     )
 
 pub with-anchors-spec : {M : Type 1} → statement M
@@ -68,8 +67,8 @@ with-anchors-spec =
     with-walk-requires
     enum-told
     enum-told-2
-    add-stop-from
-    stop-from-requires
+    add-concat-from
+    concat-from-requires
     returns
     returns-2
     returns-3)

@@ -2,8 +2,7 @@
 use mathlib.Core.Path.{sym, ap, _∙_}
 use denote.Ref.{now}
 use Rattle.slots.specs.Line.{slots}
-use Rattle.marks.specs.Plan.{withAnchors, withFound}
-use Rattle.marks.proofs.PlanLaws.{sound-all}
+use Rattle.marks.specs.Plan.{stop, withAnchors, withFound}
 use borrow.Author.Needs.{needs}
 use Rattle.marks.proofs.decision.with_found.Statement.{statement}
 use Rattle.marks.proofs.decision.with_found.Tie as tie
@@ -20,11 +19,11 @@ with-anchors-requires c κs = search needs
 enum-told : tie.Need-enum-told
 enum-told c = search needs
 
-add-stop-from : tie.Need-add-stop-from
-add-stop-from c = search needs
+add-concat-from : tie.Need-add-concat-from
+add-concat-from c = search needs
 
-stop-from-requires : tie.Need-stop-from-requires
-stop-from-requires c κs = search needs
+concat-from-requires : tie.Need-concat-from-requires
+concat-from-requires c κs = search needs
 
 returns : tie.Need-returns
 returns c =
@@ -40,9 +39,9 @@ returns c =
 returns-2 : tie.Need-returns-2
 returns-2 c =
     let a = c .before .before .before .before .before .args in (
-      c .stop-from .ensures .0
+      ap stop (c .concat-from .ensures)
           ∙ sym (ap (withFound (a .kind) (a .a) (now (a .t)) (slots (now (a .line))) (a .idx) (a .m) (a .b)) (c .before .enum-told .given .1)),
-      sound-all (c .stop-from .result) (a .idx) (c .stop-from .ensures .1),
+      tt,
     )
 
 pub with-found-spec : {M : Type 1} → statement M
@@ -53,7 +52,7 @@ with-found-spec =
     find-anchors-requires
     with-anchors-requires
     enum-told
-    add-stop-from
-    stop-from-requires
+    add-concat-from
+    concat-from-requires
     returns
     returns-2)

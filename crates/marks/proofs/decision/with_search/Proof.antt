@@ -5,9 +5,8 @@ use denote.Ref.{now}
 use Rattle.slots.specs.Line.{slots}
 use Rattle.marks.specs.Codes.{Before, placeOf}
 use Rattle.marks.specs.MarkPos.{baseIndex}
-use Rattle.marks.specs.Plan.{withFound, withSearch}
+use Rattle.marks.specs.Plan.{stop, withFound, withSearch}
 use Rattle.marks.specs.declared.search.Place.{Place}
-use Rattle.marks.proofs.PlanLaws.{sound-all}
 use borrow.Author.Needs.{needs}
 use Rattle.marks.proofs.decision.with_search.Statement.{statement}
 use Rattle.marks.proofs.decision.with_search.Tie as tie
@@ -34,11 +33,11 @@ with-found-requires c κs =
 enum-told : tie.Need-enum-told
 enum-told c = search needs
 
-add-stop-from : tie.Need-add-stop-from
-add-stop-from c = search needs
+add-concat-from : tie.Need-add-concat-from
+add-concat-from c = search needs
 
-stop-from-requires : tie.Need-stop-from-requires
-stop-from-requires c κs = search needs
+concat-from-requires : tie.Need-concat-from-requires
+concat-from-requires c κs = search needs
 
 returns : tie.Need-returns
 returns c =
@@ -55,9 +54,9 @@ returns c =
 returns-2 : tie.Need-returns-2
 returns-2 c =
     let a = c .before .before .before .before .before .args in (
-      c .stop-from .ensures .0
+      ap stop (c .concat-from .ensures)
           ∙ sym (ap (λ (p : Place). withSearch (a .kind) (a .a) (now (a .t)) (slots (now (a .line))) (a .idx) (a .m) (placeOf p)) (c .before .enum-told .given .1)),
-      sound-all (c .stop-from .result) (a .idx) (c .stop-from .ensures .1),
+      tt,
     )
 
 pub with-search-spec : {M : Type 1} → statement M
@@ -69,7 +68,7 @@ with-search-spec =
     base-index-requires
     with-found-requires
     enum-told
-    add-stop-from
-    stop-from-requires
+    add-concat-from
+    concat-from-requires
     returns
     returns-2)

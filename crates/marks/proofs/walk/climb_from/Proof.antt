@@ -1,5 +1,5 @@
 -- `marks::walk::climb_from` meets its contract: the cursive bit of the type says whether the parent is looked at. Assumes nothing.
-use mathlib.Core.Path.{_∙_}
+use mathlib.Core.Path.{sym, _∙_}
 use denote.Ref.{now}
 use Rattle.slots.specs.Line.{slots}
 use Rattle.marks.proofs.WalkLaws.{climb-cursive, climb-other}
@@ -10,20 +10,25 @@ use Rattle.marks.proofs.walk.climb_from.Tie as tie
 get-byte-requires : tie.Need-get-byte-requires
 get-byte-requires c κs = search needs
 
+cursive-bit-requires : tie.Need-cursive-bit-requires
+cursive-bit-requires c κs = search needs
+
 parent-of-requires : tie.Need-parent-of-requires
 parent-of-requires c κs = search needs
 
 returns : tie.Need-returns
 returns c =
-    let g = c .before .before in
+    let b = c .before .before in
+    let g = b .before in
     let a = g .before .before .args in
-    c .parent-of .ensures ∙ climb-cursive (slots (now (a .line))) (a .i) (g .get-byte .result) (g .get-byte .ensures) (c .before .if1 .taken)
+    c .parent-of .ensures ∙ climb-cursive (slots (now (a .line))) (a .i) (g .get-byte .result) (g .get-byte .ensures) (sym (b .cursive-bit .ensures) ∙ c .before .if1 .taken)
 
 returns-2 : tie.Need-returns-2
 returns-2 c =
-    let g = c .before in
+    let b = c .before in
+    let g = b .before in
     let a = g .before .before .args in
-    climb-other (slots (now (a .line))) (a .i) (g .get-byte .result) (g .get-byte .ensures) (c .if1 .left)
+    climb-other (slots (now (a .line))) (a .i) (g .get-byte .result) (g .get-byte .ensures) (sym (b .cursive-bit .ensures) ∙ c .if1 .left)
 
 pub climb-from-spec : {M : Type 1} → statement M
-climb-from-spec = tie.close (tie.spec get-byte-requires parent-of-requires returns returns-2)
+climb-from-spec = tie.close (tie.spec get-byte-requires cursive-bit-requires parent-of-requires returns returns-2)

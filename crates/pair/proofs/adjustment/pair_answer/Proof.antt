@@ -7,17 +7,28 @@ use Rattle.pair.proofs.adjustment.pair_answer.Tie as tie
 pair-hazard-requires : tie.Need-pair-hazard-requires
 pair-hazard-requires c κs = search needs
 
-add-t9 : tie.Need-add-t9
-add-t9 c = search needs
+add-break-range : tie.Need-add-break-range
+add-break-range c = search needs
 
-add-t9-2 : tie.Need-add-t9-2
-add-t9-2 c = search needs
+break-range-requires : tie.Need-break-range-requires
+break-range-requires c κs = search needs
+
+add-t8 : tie.Need-add-t8
+add-t8 c = search needs
 
 returns : tie.Need-returns
-returns c = rw (c .if1 .taken, c .before .pair-hazard .ensures)
+returns c = rw (c .before .if1 .taken, c .before .before .pair-hazard .ensures, c .break-range .ensures)
 
 returns-2 : tie.Need-returns-2
 returns-2 c = rw (c .if1 .left, c .before .pair-hazard .ensures)
 
 pub pair-answer-spec : {M : Type 1} → statement M
-pair-answer-spec = tie.close (tie.spec pair-hazard-requires add-t9 add-t9-2 returns returns-2)
+pair-answer-spec =
+    tie.close
+    (tie.spec
+    pair-hazard-requires
+    add-break-range
+    break-range-requires
+    add-t8
+    returns
+    returns-2)
