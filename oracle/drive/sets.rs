@@ -1,4 +1,4 @@
-//! Calls made one by one from their number: short lines in full, every length around a boundary, every byte of a slot's first fields, every mixture of
+//! Calls made one by one from their number: short lines in full, labels, every length around a boundary, every byte of a slot's first fields, every mixture of
 //! refusals, each argument at its ends, and each subtable cut at every byte and changed at every bit.
 use crate::call::*;
 use crate::lines::{arguments, push, Slot};
@@ -85,6 +85,25 @@ fn chains(kind: usize, mut number: usize) -> Call {
         }
         MARK_BASE | MARK_LIGATURE if digit(&mut number, 2) == 1 => call.line[24 + 4] = 0,
         _ => {}
+    }
+    call
+}
+
+/// A label as fonts make them: letters, each apart or joined to the one before or after it, then marks, of which the last is attached. It has the letters' ligature id or another, and
+/// any component.
+fn labels(kind: usize, mut number: usize) -> Call {
+    let letters = 1 + digit(&mut number, 6);
+    let mut call = plain(kind, letters + 1 + digit(&mut number, 3));
+    let (chain, end) = [(0i16, 0), (-1, 0), (1, letters - 1)][digit(&mut number, 3)];
+    let (id, component) = (1 + digit(&mut number, 2) as u8, digit(&mut number, 16) as u8);
+    call.direction = digit(&mut number, 4) as u32;
+    for (i, slot) in call.line.chunks_exact_mut(24).enumerate() {
+        if i >= letters {
+            slot[2..5].copy_from_slice(&[id, component, 2]);
+        } else if i != end {
+            slot[5] = 2;
+            slot[6..8].copy_from_slice(&chain.to_be_bytes());
+        }
     }
     call
 }
@@ -207,7 +226,10 @@ pub fn sets(kind: usize) -> Vec<Set> {
         START => all.push(Set { name: "short lines", count: short, make: chains }),
         FINISH => all.push(Set { name: "short lines", count: short * 4 * 4, make: chains }),
         CURSIVE => all.push(Set { name: "short lines", count: short * 4 * 2 * 3, make: chains }),
-        MARK_BASE | MARK_LIGATURE => all.push(Set { name: "short lines", count: short * 4 * 2, make: chains }),
+        MARK_BASE | MARK_LIGATURE => {
+            all.push(Set { name: "short lines", count: short * 4 * 2, make: chains });
+            all.push(Set { name: "labels", count: 6 * 3 * 3 * 2 * 16 * 4, make: labels });
+        }
         _ => {}
     }
     if kind >= SINGLE {
