@@ -1,12 +1,11 @@
 -- The scale: it is the floor, its bound, and the quotient that code computes. Assumes nothing.
-use mathlib.Core.Path.{_≡_, refl, sym, ap, _∙_}
+use mathlib.Core.Path.{_≡_, sym, ap, _∙_}
 use Prim.Native.Nat.{ℕ, suc, _+_, _*_, _-_, _/_, _%_, _<_, _≤_}
 use native.Mathlib.Nat.{add-mul-div-right, div-add-mod', div-lt-iff-lt-mul, div-mul-le-self, le-div-iff-mul-le, lt-div-mul-add, mod-lt}
 use native.Mathlib.Omega.{arith}
 use lib.Arith.{digits-div}
 use lib.IntN.{ℤ, pos, negsuc, _+ℤ_, _*ℤ_}
 use lib.Signed.{_≤ℤ_}
-use Rattle.ints.specs.Saturating.{minus}
 use Rattle.ints.specs.Scale.{floorDiv, scaled}
 use Rattle.ints.proofs.Ints.{add-diff-pos, bal-add, by-sign, diff, dn, dn-mul, eq-diff, mul-diff, negsuc-diff, omegaℤ, pos-diff, pos-mul-diff, up, up-mul}
 
@@ -42,11 +41,6 @@ module _ (v : ℤ) (s u : ℕ) (h : 0 < u) where
   pub lt-scaled : (pos 2 *ℤ v *ℤ pos s +ℤ pos u +ℤ pos 1) ≤ℤ ((scaled v s u +ℤ pos 1) *ℤ pos (2 * u))
   unfolding scaled
   lt-scaled = lt-floor (pos 2 *ℤ v *ℤ pos s +ℤ pos u) (2 * u) (omega arith)
-
--- ---- P1: at s 500, u 1000, 3 becomes 2 and - 3 becomes - 1
-pub P1 : (scaled (pos 3) 500 1000 ≡ pos 2) × (scaled (minus 3) 500 1000 ≡ minus 1)
-unfolding scaled floorDiv
-P1 = (refl, refl)
 
 -- ---- floor((a - b m) / m) is floor(a / m) - b
 floor-below : (q r d m : ℕ) → r < m → ((suc q + d) * m - suc (q * m + r)) / m ≡ d
