@@ -16,10 +16,10 @@ ghost use Rattle.slots.specs.Line.{count, slots};
 ghost use Rattle.slots.specs.declared.axis.Axis.the-variants.{X, Y};
 ghost use Rattle.finish.specs.Finish.{advances, stepBy, walked};
 
-// A slot's two offsets.
+// A slot's two offsets. The field that is later in a slot comes first: both are then written by one store.
 pub struct Offsets {
-    pub x: Signed,
     pub y: Signed,
+    pub x: Signed,
 }
 
 // A lifted sum z with v subtracted or added.
