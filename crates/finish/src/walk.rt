@@ -1,41 +1,45 @@
 // The advances between a slot and its parent, read from one part of the line in one pass.
 use ints::big_endian::Signed;
-use ints::saturating::sat_add;
-use ints::saturating::sat_sub;
+use ints::saturating::lift;
+use ints::saturating::lifted_add;
+use ints::saturating::lifted_sub;
+use ints::saturating::unlift;
 use slots::axis::Axis;
 use slots::axis::Direction;
 use slots::fields::Measure;
 ghost use mathlib.Core.Path.{_≡_};
 ghost use Prim.Native.Nat.{_<_};
+ghost use Rattle.ints.specs.Saturating.{unlifted};
 ghost use Rattle.ints.specs.Signed.{val};
 ghost use Rattle.ints.specs.Sums.{stepwise};
 ghost use Rattle.slots.specs.Line.{count, slots};
 ghost use Rattle.slots.specs.declared.axis.Axis.the-variants.{X, Y};
 ghost use Rattle.finish.specs.Finish.{advances, stepBy, walked};
 
-// A slot's two offsets.
+// A slot's two offsets. The field that is later in a slot comes first: both are then written by one store.
 pub struct Offsets {
-    pub x: Signed,
     pub y: Signed,
+    pub x: Signed,
 }
 
-// z with v subtracted or added.
-fn step(z: Signed, v: Signed, subtract: bool) -> Signed
-    ensures { λ r. ⌜ val r ≡ stepBy subtract (val z) (val v) ⌝ }
+// A lifted sum z with v subtracted or added.
+fn step(z: u64, v: Signed, subtract: bool) -> u64
+    requires { ⌜ z < 4294967296 ⌝ }
+    ensures { λ r. ⌜ (unlifted r ≡ stepBy subtract (unlifted z) (val v)) × (r < 4294967296) ⌝ }
 {
     if subtract {
-        return sat_sub(z, v);
+        return lifted_sub(z, v);
     }
-    sat_add(z, v)
+    lifted_add(z, v)
 }
 
-// The advances of a part of the line put to both offsets, one by one.
-fn step_all(part: &[u8], from: Offsets, subtract: bool) -> Offsets
+// The advances of a part of n slots put to both offsets, one by one.
+fn step_all(part: &[u8], n: usize, from: Offsets, subtract: bool) -> Offsets
+    requires { ⌜ n ≡ count (now part) ⌝ }
     ensures { λ r. ⌜ (val (r .x) ≡ stepwise (stepBy subtract) (val (from .x)) (advances X (slots (now (part .entry))))) × (val (r .y) ≡ stepwise (stepBy subtract) (val (from .y)) (advances Y (slots (now (part .entry))))) ⌝ }
 {
-    let n = slots::fields::slot_count(part);
-    let mut x = from.x;
-    let mut y = from.y;
+    let mut x = lift(from.x);
+    let mut y = lift(from.y);
     let mut k = 0;
     while k < n {
         x = step(
@@ -50,7 +54,10 @@ fn step_all(part: &[u8], from: Offsets, subtract: bool) -> Offsets
         );
         k += 1;
     }
-    Offsets { x: x, y: y }
+    Offsets {
+        x: unlift(x),
+        y: unlift(y),
+    }
 }
 
 // Both offsets with the advances between slot i and its parent j put to them. With the parent before the slot, the common case, a forward
@@ -61,16 +68,22 @@ pub fn walk(line: &[u8], d: Direction, i: usize, j: usize, from: Offsets) -> Off
 {
     if j < i {
         if slots::axis::is_forward(d) {
-            return step_all(slots::fields::slots_between(line, j, i), from, true);
+            return step_all(slots::fields::slots_between(line, j, i), i - j, from, true);
         }
         return step_all(
             slots::fields::slots_between(line, j + 1, i + 1),
+            i - j,
             from,
             false,
         );
     }
     if slots::axis::is_forward(d) {
-        return step_all(slots::fields::slots_between(line, i, j), from, false);
+        return step_all(slots::fields::slots_between(line, i, j), j - i, from, false);
     }
-    step_all(slots::fields::slots_between(line, i + 1, j + 1), from, true)
+    step_all(
+        slots::fields::slots_between(line, i + 1, j + 1),
+        j - i,
+        from,
+        true,
+    )
 }

@@ -1,6 +1,6 @@
 -- Laws of clamping to 32 bits, and of the sums that code computes on v + 2 ^ 31. Assumes nothing.
 use mathlib.Core.Path.{_≡_, refl, sym, ap, _∙_}
-use Prim.Native.Nat.{ℕ, _+_, _-_, _%_, _<_, _≤_}
+use Prim.Native.Nat.{ℕ, _+_, _-_, _%_, _<_, _≤_, min}
 use native.Mathlib.Decide.{decLe, decLt}
 use native.Mathlib.Omega.{arith}
 use borrow.Author.Tests.{lt-ltb, le-ltb}
@@ -8,7 +8,7 @@ use lib.Dec.{ltb}
 use lib.IntN.{ℤ, pos, negsuc, negℤ, natAbs, _+ℤ_, _-ℤ_}
 use lib.Signed.{ltZ, mag}
 use Rattle.ints.specs.Signed.{InBytes, signed, val}
-use Rattle.ints.specs.Saturating.{clamp32, less, minus, negated, plus}
+use Rattle.ints.specs.Saturating.{clamp32, less, minus, negated, plus, unlifted}
 use Rattle.ints.proofs.Ints.{add-diff, diff, diff-of, dn, dn-diff, eq-diff, lt-diff, neg-diff, sub-pos, up, up-diff}
 use Rattle.ints.proofs.SignedLaws.{signed-high, signed-low}
 use Rattle.ints.proofs.SizeLaws.{abs-add, abs-neg, abs-parts, abs-sub, mag-abs, mag-up}
@@ -94,6 +94,28 @@ lifted v h = go (decLe 2147483648 v)
         sub-pos ((v + 2147483648) % 4294967296) 2147483648 ∙ sym (signed-high 4 v ((v + 2147483648) % 4294967296) 2147483648 (omega arith) (omega arith))
     go (no k) =
         sub-pos ((v + 2147483648) % 4294967296) 2147483648 ∙ sym (signed-low 4 v ((v + 2147483648) % 4294967296) 2147483648 (omega arith) (omega arith))
+
+-- a - b, from 0 to 2 ^ 32 - 1, is the nearest number of 32 bits, lifted
+clamp-lifted : (a b : ℕ) → unlifted (min (a - b) 4294967295) ≡ clamp32 (diff a (b + 2147483648))
+clamp-lifted a b = go (decLt a b) (decLt (b + 4294967295) a)
+  where
+    go : Dec (a < b) → Dec (b + 4294967295 < a) → unlifted (min (a - b) 4294967295) ≡ clamp32 (diff a (b + 2147483648))
+    go (yes l) h =
+        let e : min (a - b) 4294967295 ≡ 0 = omega arith in
+        rw (e, clamp-low a (b + 2147483648) (omega arith))
+    go (no l) (yes h) =
+        let e : min (a - b) 4294967295 ≡ 4294967295 = omega arith in
+        rw (e, clamp-high a (b + 2147483648) (omega arith))
+    go (no l) (no h) =
+        let e : min (a - b) 4294967295 ≡ a - b = omega arith in
+        rw (e, clamp-in a (b + 2147483648) (omega arith) (omega arith), sub-pos (a - b) 2147483648) (eq-diff _ _ _ _ (omega arith))
+
+module _ (x w : ℕ) where
+  pub lifted-plus : unlifted (min (x + w - 2147483648) 4294967295) ≡ plus (unlifted x) (unlifted w)
+  lifted-plus = clamp-lifted (x + w) 2147483648 ∙ rw (sub-pos x 2147483648, sub-pos w 2147483648, add-diff)
+
+  pub lifted-less : unlifted (min (x + 2147483648 - w) 4294967295) ≡ less (unlifted x) (unlifted w)
+  lifted-less = clamp-lifted (x + 2147483648) w ∙ rw (sub-pos x 2147483648, sub-pos w 2147483648, neg-diff, add-diff) (ap clamp32 (eq-diff _ _ _ _ (omega arith)))
 
 -- a number near zero, lifted, is near 2 ^ 31
 pub near-lifted : (n k : ℕ) (z : ℤ) → pos n -ℤ pos 2147483648 ≡ z → natAbs z ≤ k → (2147483648 ≤ n + k) × (n ≤ 2147483648 + k)

@@ -24,3 +24,7 @@ less a b = clamp32 (a -ℤ b)
 
 abbrev pub negated : ℤ → ℤ
 negated a = clamp32 (negℤ a)
+
+-- a sum in progress is held as v + 2 ^ 31, n: this is the integer v
+abbrev pub unlifted : ℕ → ℤ
+unlifted n = pos n -ℤ pos 2147483648

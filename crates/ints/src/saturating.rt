@@ -2,10 +2,10 @@
 // v + 2 ^ 31, which is never below 0: no test on a sign, so that a number just read stays one load.
 use crate::big_endian::Signed;
 ghost use mathlib.Core.Path.{_≡_};
-ghost use Prim.Native.Nat.{_≤_, _<_};
+ghost use Prim.Native.Nat.{_-_, _≤_, _<_, min};
 ghost use lib.IntN.{pos, natAbs, _-ℤ_};
 ghost use Rattle.ints.specs.Signed.{val};
-ghost use Rattle.ints.specs.Saturating.{clamp32, less, negated, plus};
+ghost use Rattle.ints.specs.Saturating.{clamp32, less, negated, plus, unlifted};
 
 // v + 2 ^ 31.
 pub fn lift(v: Signed) -> u64
@@ -25,6 +25,49 @@ pub fn lower(n: u64) -> Signed
         return 2147483647;
     }
     (n % 4294967296) as u32
+}
+
+// v of v + 2 ^ 31.
+pub fn unlift(n: u64) -> Signed
+    requires { ⌜ n < 4294967296 ⌝ }
+    ensures { λ r. ⌜ val r ≡ unlifted n ⌝ }
+{
+    ((n + 2147483648) % 4294967296) as u32
+}
+
+// a - b, or 0.
+fn floored(a: u64, b: u64) -> u64
+    ensures { λ r. ⌜ r ≡ a - b ⌝ }
+{
+    if a < b {
+        return 0;
+    }
+    a - b
+}
+
+// n, or the greatest number of 32 bits.
+fn capped(n: u64) -> u64
+    ensures { λ r. ⌜ r ≡ min n 4294967295 ⌝ }
+{
+    if 4294967295 < n {
+        return 4294967295;
+    }
+    n
+}
+
+// The sum and the difference on v + 2 ^ 31 alone: a loop of them lifts and unlifts once.
+pub fn lifted_add(x: u64, v: Signed) -> u64
+    requires { ⌜ x < 4294967296 ⌝ }
+    ensures { λ r. ⌜ (unlifted r ≡ plus (unlifted x) (val v)) × (r < 4294967296) ⌝ }
+{
+    capped(floored(x + lift(v), 2147483648))
+}
+
+pub fn lifted_sub(x: u64, v: Signed) -> u64
+    requires { ⌜ x < 4294967296 ⌝ }
+    ensures { λ r. ⌜ (unlifted r ≡ less (unlifted x) (val v)) × (r < 4294967296) ⌝ }
+{
+    capped(floored(x + 2147483648, lift(v)))
 }
 
 pub fn sat_add(a: Signed, b: Signed) -> Signed

@@ -1,6 +1,6 @@
 // What a slot hangs on, for any chain and any length of the line.
+use crate::fields::SLOT_SIZE;
 use crate::fields::chain;
-use crate::fields::slot_count;
 ghost use mathlib.Core.Path.{_≡_};
 ghost use Prim.Native.Nat.{_<_};
 ghost use Rattle.slots.specs.Line.{count, slots};
@@ -21,12 +21,13 @@ pub fn parent_of(line: &[u8], i: usize) -> Parent
     if c == 0 {
         return Parent::None;
     }
-    let j = i + ints::saturating::lift(c) as usize;
-    if j < 2147483648 {
+    let lifted = i + ints::saturating::lift(c) as usize;
+    if lifted < 2147483648 {
         return Parent::Outside;
     }
-    if slot_count(line) <= j - 2147483648 {
+    let j = lifted - 2147483648;
+    if line.len() < j * SLOT_SIZE + SLOT_SIZE {
         return Parent::Outside;
     }
-    Parent::At(j - 2147483648)
+    Parent::At(j)
 }

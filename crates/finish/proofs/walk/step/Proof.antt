@@ -3,17 +3,17 @@ use borrow.Author.Needs.{needs}
 use Rattle.finish.proofs.walk.step.Statement.{statement}
 use Rattle.finish.proofs.walk.step.Tie as tie
 
-sat-sub-requires : tie.Need-sat-sub-requires
-sat-sub-requires c κs = search needs
+lifted-sub-requires : tie.Need-lifted-sub-requires
+lifted-sub-requires c κs = search needs
 
 returns : tie.Need-returns
-returns c = simp (c .before .if1 .taken) (c .sat-sub .ensures)
+returns c = rw (c .before .if1 .taken) (c .lifted-sub .ensures)
 
-sat-add-requires : tie.Need-sat-add-requires
-sat-add-requires c κs = search needs
+lifted-add-requires : tie.Need-lifted-add-requires
+lifted-add-requires c κs = search needs
 
 returns-2 : tie.Need-returns-2
-returns-2 c = simp (c .before .if1 .left) (c .sat-add .ensures)
+returns-2 c = rw (c .before .if1 .left) (c .lifted-add .ensures)
 
 pub step-spec : {M : Type 1} → statement M
-step-spec = tie.close (tie.spec sat-sub-requires returns sat-add-requires returns-2)
+step-spec = tie.close (tie.spec lifted-sub-requires returns lifted-add-requires returns-2)

@@ -1,10 +1,10 @@
--- After k turns the first k advances of the part have been put to both offsets. Assumes nothing.
-use mathlib.Core.Path.{_≡_, refl}
-use Prim.Native.Nat.{_-_, _≤_}
+-- After k turns the first k advances of the part have been put to both offsets, which are held lifted. Assumes nothing.
+use mathlib.Core.Path.{_≡_, refl, ap, _∙_}
+use Prim.Native.Nat.{_-_, _≤_, _<_}
 use native.Mathlib.Omega.{arith}
 use borrow.Author.Needs.{needs}
 use lib.ListN.{take}
-use Rattle.ints.specs.Signed.{val}
+use Rattle.ints.specs.Saturating.{unlifted}
 use Rattle.ints.specs.Sums.{stepwise}
 use Rattle.slots.specs.Line.{count, slots}
 use Rattle.slots.specs.declared.axis.Axis.the-variants.{X, Y}
@@ -15,20 +15,23 @@ use Rattle.finish.proofs.walk.step_all.Statement.{statement}
 use Rattle.finish.proofs.walk.step_all.Tie as tie
 
 abbrev Inv-loop : tie.InvT-loop
-Inv-loop part subtract n x₀ y₀ k₀ x y k =
-    (k ≤ n) × (n ≡ count part)
-    × (val x ≡ stepwise (stepBy subtract) (val x₀) (take k (advances X (slots part))))
-    × (val y ≡ stepwise (stepBy subtract) (val y₀) (take k (advances Y (slots part))))
+Inv-loop part n subtract x₀ y₀ k₀ x y k =
+    (k ≤ n) × (x < 4294967296) × (y < 4294967296)
+    × (unlifted x ≡ stepwise (stepBy subtract) (unlifted x₀) (take k (advances X (slots part))))
+    × (unlifted y ≡ stepwise (stepBy subtract) (unlifted y₀) (take k (advances Y (slots part))))
 
 abbrev μ-loop : tie.MeasureT-loop
-μ-loop part subtract n x₀ y₀ k₀ x y k = n - k
+μ-loop part n subtract x₀ y₀ k₀ x y k = n - k
 
-slot-count-requires : tie.Need-slot-count-requires Inv-loop μ-loop
-slot-count-requires c κs = search needs
+lift-requires : tie.Need-lift-requires Inv-loop μ-loop
+lift-requires c κs = search needs
+
+lift-requires-2 : tie.Need-lift-requires-2 Inv-loop μ-loop
+lift-requires-2 c κs = search needs
 
 loop-holds : tie.Need-loop-holds Inv-loop μ-loop
 unfolding stepwise
-loop-holds c = (omega arith, c .slot-count .ensures, refl, refl)
+loop-holds c = (omega arith, c .before .lift .ensures .1, c .lift2 .ensures .1, refl, refl)
 
 get-requires : tie.Need-get-requires Inv-loop μ-loop
 get-requires c κs = search needs
@@ -50,24 +53,41 @@ loop-less c = omega arith
 
 loop-again : tie.Need-loop-again Inv-loop μ-loop
 loop-again c =
-    let a = c .before .before .before .before .before .before .before .before .args in
-    let at-loop = c .before .before .before .before .before .loop in
+    let at-loop = c .before .before .before .before .before in
+    let a = at-loop .before .before .before .before .args in
+    let from-x = at-loop .before .before .lift .result in
+    let from-y = at-loop .before .lift2 .result in
     let ss = slots (a .part .now) in
-    let f = stepBy (a .subtract) in (
+    let f = stepBy (a .subtract) in
+    let k = at-loop .loop .k in
+    let step-x = c .before .before .step .ensures in
+    let step-y = c .step2 .ensures in (
       omega arith,
-      at-loop .inv .1,
-      steps-more f (val (a .from .x)) X ss (at-loop .k) (omega (arith, length-slots (a .part .now))) (at-loop .inv .2) (c .before .before .before .get .ensures) (c .before .before .step .ensures),
-      steps-more f (val (a .from .y)) Y ss (at-loop .k) (omega (arith, length-slots (a .part .now))) (at-loop .inv .3) (c .before .get2 .ensures) (c .step2 .ensures),
+      step-x .1,
+      step-y .1,
+      steps-more f (unlifted from-x) X ss k (omega (arith, length-slots (a .part .now))) (at-loop .loop .inv .3) (c .before .before .before .get .ensures) (step-x .0),
+      steps-more f (unlifted from-y) Y ss k (omega (arith, length-slots (a .part .now))) (at-loop .loop .inv .4) (c .before .get2 .ensures) (step-y .0),
     )
+
+unlift-requires : tie.Need-unlift-requires Inv-loop μ-loop
+unlift-requires c κs = search needs
+
+unlift-requires-2 : tie.Need-unlift-requires-2 Inv-loop μ-loop
+unlift-requires-2 c κs = search needs
 
 returns : tie.Need-returns Inv-loop μ-loop
 returns c =
-    let a = c .before .before .before .before .args in
-    let at-loop = c .before .loop in
+    let at-loop = c .before .before .before in
+    let a = at-loop .before .before .before .before .args in
+    let from-x = at-loop .before .before .lift in
+    let from-y = at-loop .before .lift2 in
     let ss = slots (a .part .now) in
-    let f = stepBy (a .subtract) in (
-      steps-all f (val (a .from .x)) X ss (at-loop .k) (omega (arith, length-slots (a .part .now))) (at-loop .inv .2),
-      steps-all f (val (a .from .y)) Y ss (at-loop .k) (omega (arith, length-slots (a .part .now))) (at-loop .inv .3),
+    let f = stepBy (a .subtract) in
+    let k = at-loop .loop .k in (
+      c .before .unlift .ensures ∙ steps-all f (unlifted (from-x .result)) X ss k (omega (arith, length-slots (a .part .now))) (at-loop .loop .inv .3)
+          ∙ ap (λ z. stepwise f z (advances X ss)) (from-x .ensures .0),
+      c .unlift2 .ensures ∙ steps-all f (unlifted (from-y .result)) Y ss k (omega (arith, length-slots (a .part .now))) (at-loop .loop .inv .4)
+          ∙ ap (λ z. stepwise f z (advances Y ss)) (from-y .ensures .0),
     )
 
 pub step-all-spec : {M : Type 1} → statement M
@@ -76,7 +96,8 @@ step-all-spec =
     (tie.spec
     Inv-loop
     μ-loop
-    slot-count-requires
+    lift-requires
+    lift-requires-2
     loop-holds
     get-requires
     step-requires
@@ -85,4 +106,6 @@ step-all-spec =
     add-k
     loop-less
     loop-again
+    unlift-requires
+    unlift-requires-2
     returns)

@@ -16,6 +16,9 @@ is-forward-requires c κs = search needs
 slots-between-requires : tie.Need-slots-between-requires
 slots-between-requires c κs = search needs
 
+sub-step-all : tie.Need-sub-step-all
+sub-step-all c = search needs
+
 step-all-requires : tie.Need-step-all-requires
 step-all-requires c κs = search needs
 
@@ -36,8 +39,11 @@ add-slots-between-2 c = search needs
 slots-between-requires-2 : tie.Need-slots-between-requires-2
 slots-between-requires-2 c κs = search needs
 
+sub-step-all-2 : tie.Need-sub-step-all-2
+sub-step-all-2 c = search needs
+
 step-all-requires-2 : tie.Need-step-all-requires-2
-step-all-requires-2 c κs = search needs
+step-all-requires-2 c κs = omega arith
 
 returns-2 : tie.Need-returns-2
 returns-2 c =
@@ -74,7 +80,7 @@ slots-between-requires-4 : tie.Need-slots-between-requires-4
 slots-between-requires-4 c κs = search needs
 
 step-all-requires-4 : tie.Need-step-all-requires-4
-step-all-requires-4 c κs = search needs
+step-all-requires-4 c κs = omega arith
 
 returns-4 : tie.Need-returns-4
 returns-4 c =
@@ -90,11 +96,13 @@ walk-spec =
     (tie.spec
     is-forward-requires
     slots-between-requires
+    sub-step-all
     step-all-requires
     returns
     add-slots-between
     add-slots-between-2
     slots-between-requires-2
+    sub-step-all-2
     step-all-requires-2
     returns-2
     is-forward-requires-2

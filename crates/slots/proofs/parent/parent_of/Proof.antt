@@ -33,8 +33,8 @@ returns c =
 lift-requires : tie.Need-lift-requires
 lift-requires c κs = search needs
 
-add-j : tie.Need-add-j
-add-j c = search needs
+add-lifted : tie.Need-add-lifted
+add-lifted c = search needs
 
 returns-2 : tie.Need-returns-2
 unfolding parent
@@ -45,28 +45,31 @@ returns-2 c =
     sym (ap (parentBy (length ss) (a .i)) (sym (chain .ensures .0))
     ∙ parent-below (length ss) (a .i) (c .before .lift .result) (val (chain .result)) (c .before .lift .ensures .0) (attached (chain .result) (omega arith) (c .before .before .if1 .left)) (omega arith))
 
-slot-count-requires : tie.Need-slot-count-requires
-slot-count-requires c κs = search needs
+mul-if3 : tie.Need-mul-if3
+mul-if3 c = search needs
+
+add-if3 : tie.Need-add-if3
+add-if3 c = search needs
 
 returns-3 : tie.Need-returns-3
 unfolding parent
 returns-3 c =
-    let a = c .before .before .before .before .before .before .before .args in
+    let a = c .before .before .before .before .before .before .args in
     let ss = slots (a .line .now) in
-    let chain = c .before .before .before .before .before .chain in
-    let lift = c .before .before .before .lift in
+    let chain = c .before .before .before .before .chain in
+    let lift = c .before .before .lift in
     sym (ap (parentBy (length ss) (a .i)) (sym (chain .ensures .0))
-    ∙ parent-above (length ss) (a .i) (lift .result) (val (chain .result)) (lift .ensures .0) (attached (chain .result) (omega arith) (c .before .before .before .before .if1 .left)) (omega arith) (omega (arith, length-slots (a .line .now))))
+    ∙ parent-above (length ss) (a .i) (lift .result) (val (chain .result)) (lift .ensures .0) (attached (chain .result) (omega arith) (c .before .before .before .if1 .left)) (omega arith) (omega (arith, length-slots (a .line .now))))
 
 returns-4 : tie.Need-returns-4
 unfolding parent
 returns-4 c =
-    let a = c .before .before .before .before .before .before .before .args in
+    let a = c .before .before .before .before .before .before .args in
     let ss = slots (a .line .now) in
-    let chain = c .before .before .before .before .before .chain in
-    let lift = c .before .before .before .lift in
+    let chain = c .before .before .before .before .chain in
+    let lift = c .before .before .lift in
     sym (ap (parentBy (length ss) (a .i)) (sym (chain .ensures .0))
-    ∙ parent-in (length ss) (a .i) (lift .result) (val (chain .result)) (lift .ensures .0) (attached (chain .result) (omega arith) (c .before .before .before .before .if1 .left)) (omega arith) (omega (arith, length-slots (a .line .now))))
+    ∙ parent-in (length ss) (a .i) (lift .result) (val (chain .result)) (lift .ensures .0) (attached (chain .result) (omega arith) (c .before .before .before .if1 .left)) (omega arith) (omega (arith, length-slots (a .line .now))))
 
 pub parent-of-spec : {M : Type 1} → statement M
 parent-of-spec =
@@ -75,8 +78,9 @@ parent-of-spec =
     chain-requires
     returns
     lift-requires
-    add-j
+    add-lifted
     returns-2
-    slot-count-requires
+    mul-if3
+    add-if3
     returns-3
     returns-4)
