@@ -12,14 +12,14 @@ use Rattle.ints.specs.Signed.{intAt, signed}
 use Rattle.counts.specs.Tally.{bit, tally}
 use Rattle.slots.specs.Slot.{Slot}
 use Rattle.slots.specs.Line.{update}
-use Rattle.slots.specs.Parent.{parent}
+use Rattle.slots.specs.Parent.{cleared, parent}
 use Rattle.slots.specs.declared.axis.Axis.the-variants.{Y}
 use Rattle.slots.specs.declared.axis.Direction.the-variants.{BottomToTop, LeftToRight}
 use Rattle.tables.specs.Anchor.{Spot}
 use Rattle.tables.specs.Spans.{ascends, firstHolding, spanAt, spansFrom}
 use Rattle.answers.specs.declared.Neighbour.the-variants.{At}
 use Rattle.cursive.specs.Attachment.{joinedAt, planned, separatedBy, tied}
-use Rattle.cursive.specs.Chains.{attachedCount, cleared}
+use Rattle.cursive.specs.Chains.{attachedCount}
 use Rattle.cursive.specs.CursivePos.{cursiveGood, planOf}
 use Rattle.cursive.specs.Reversal.{reversed, reversedIn, turned}
 use Rattle.cursive.proofs.Sound.{SoundChain}

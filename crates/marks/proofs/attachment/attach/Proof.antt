@@ -2,17 +2,17 @@
 use mathlib.Core.Path.{_≡_, sym, ap, subst, _∙_}
 use native.Mathlib.Omega.{arith}
 use denote.Ref.{now}
-use lib.IntN.{ℤ}
 use Rattle.ints.specs.Signed.{val}
 use Rattle.slots.specs.Axis.{cross}
-use Rattle.slots.specs.Fields.{withChain}
-use Rattle.slots.specs.Line.{slots, update}
+use Rattle.slots.specs.Line.{slots}
 use Rattle.slots.specs.declared.axis.Axis.{Axis}
+use Rattle.slots.proofs.ChainLaws.{zero-fits}
+use Rattle.slots.proofs.ParentLaws.{cleared-is}
 use Rattle.tables.specs.Anchor.{spotOf}
 use Rattle.answers.specs.Said.{ranges, said}
 use Rattle.marks.specs.Codes.{meant, Sound}
 use Rattle.marks.specs.Plan.{planOf}
-use Rattle.marks.proofs.AttachmentLaws.{chain-none, effect-endless, effect-far, effect-hung, effect-stop, none-fits}
+use Rattle.marks.proofs.AttachmentLaws.{effect-endless, effect-far, effect-hung, effect-stop}
 use borrow.Author.Needs.{needs}
 use Rattle.marks.proofs.attachment.attach.Statement.{statement}
 use Rattle.marks.proofs.attachment.attach.Tie as tie
@@ -50,7 +50,7 @@ sub-if1 c =
     omega (arith, sound .0)
 
 set-chain-requires : tie.Need-set-chain-requires
-set-chain-requires c κs = (search needs, none-fits)
+set-chain-requires c κs = (search needs, zero-fits)
 
 passed-requires : tie.Need-passed-requires
 passed-requires c κs = search needs
@@ -70,7 +70,7 @@ returns c =
     effect-far (a .s) (a .u) (a .d) (a .idx) (planOf (a .kind) (cross (a .d)) (now (a .t)) ss (a .idx)) ss
     (g .0) (spotOf (g .1 .0)) (spotOf (g .1 .1 .0)) (val (g .1 .1 .1 .0)) (sym (ap meant (k .decision2 .given .1)) ∙ as-planned s)
     (said (c .passed .result)) (slots (chain .last .0)) (i .if1 .taken) (c .passed .ensures)
-    (chain .ensures ∙ ap (λ (z : ℤ). update (a .idx) (withChain z) ss) chain-none)
+    (cleared-is ss (a .idx) (chain .ensures))
 
 hang-requires : tie.Need-hang-requires
 hang-requires c κs =
