@@ -51,14 +51,14 @@ module _ (s u : ℕ) (d : Direction) (idx b : ℕ) (base mark : Spot) (walk : �
       update-both idx _ ss _ l three e₄ ∙ rw (is-along, is-across, x′, z′, is-chain)
 
 -- ---- what a plan comes to
-module _ (s u : ℕ) (d : Direction) (idx : ℕ) (plan : Plan) (ss : List Slot) where
-  pub effect-stop : (hs : List Range) → stop hs ≡ plan → Effect ss (planSaid idx plan) (planned s u d idx plan ss) (declined hs) ss
-  effect-stop hs e = rw (← e) (record { answer = refl; slots-are = refl })
+module _ (s u : ℕ) (d : Direction) (idx : ℕ) {plan : Plan} {ss : List Slot} where
+  pub effect-stop : {hs : List Range} → stop hs ≡ plan → Effect ss (planSaid idx plan) (planned s u d idx plan ss) (declined hs) ss
+  effect-stop e = rw (← e) (record { answer = refl; slots-are = refl })
 
   pub effect-endless : endless ≡ plan → Effect ss (planSaid idx plan) (planned s u d idx plan ss) (refused 7) ss
   effect-endless e = rw (← e) (record { answer = refl; slots-are = refl })
 
-  module _ (b : ℕ) (base mark : Spot) (walk : ℤ) (e : hang b base mark walk ≡ plan) (r : Said) (ss′ : List Slot) where
+  module _ {b : ℕ} {base mark : Spot} {walk : ℤ} (e : hang b base mark walk ≡ plan) {r : Said} {ss′ : List Slot} where
     pub effect-far : 32768 < idx - b → r ≡ applied (idx + 1) (break b (idx + 1) ∷ []) false → ss′ ≡ cleared ss idx
         → Effect ss (planSaid idx plan) (planned s u d idx plan ss) r ss′
     effect-far h is-r is-ss = rw (← e, lt-leb (idx - b) 32768 h) (record { answer = is-r; slots-are = is-ss })
