@@ -18,7 +18,7 @@ use Rattle.slots.specs.Line.{slot, update}
 use Rattle.slots.specs.Fields.{advance, attached, offset, withChain, withMeasure}
 use Rattle.slots.specs.declared.axis.Axis.{Axis}
 use Rattle.slots.specs.declared.fields.Measure.the-variants.{Advance, Offset}
-use Rattle.slots.proofs.LineLaws.{update-same}
+use Rattle.slots.proofs.LineLaws.{update-as, update-both, update-same}
 use Rattle.slots.specs.Axis.{cross, main}
 use Rattle.slots.specs.declared.axis.Direction.{Direction}
 use Rattle.tables.specs.Anchor.{Spot}
@@ -27,20 +27,19 @@ use Rattle.cursive.specs.Attachment.{crossed, ended, hung, joinedAt, pre
 use Rattle.cursive.specs.Chains.{chainTo}
 use Rattle.cursive.specs.Reversal.{reversed}
 use Rattle.cursive.proofs.ReversalLaws.{length-reversed}
-use Rattle.cursive.proofs.UpdateLaws.{update-as, update-both}
 
 -- ---- along the line
 module _ (a : Axis) (i : ℕ) (ss : List Slot) (z : ℤ) {o : ℤ} (offset-is : o ≡ offset a (slot ss i)) where
   -- the advance set to the sum that was computed
   pub ended-is : {v : ℤ} {ss₁ : List Slot} → v ≡ plus z o → ss₁ ≡ update i (withMeasure Advance a v) ss → ss₁ ≡ update i (ended a z) ss
-  ended-is {v} v-is e = e ∙ update-as i ss (withMeasure Advance a v) (ended a z) (rw (v-is, offset-is))
+  ended-is {v} v-is e = e ∙ update-as i (withMeasure Advance a v) ss (ended a z) (rw (v-is, offset-is))
 
   -- the advance set, then the offset, each less the sum that was computed
   pub pulled-is : {d m v w : ℤ} {ss₁ ss₂ : List Slot} → i < length ss → d ≡ advance a (slot ss i) → m ≡ plus z o → v ≡ less d m
       → ss₁ ≡ update i (withMeasure Advance a v) ss → w ≡ less o m → ss₂ ≡ update i (withMeasure Offset a w) ss₁ → ss₂ ≡ update i (pulled a z) ss
   pulled-is {d} {m} {v} {w} lt d-is m-is v-is e₁ w-is e₂ =
-      update-both i ss (withMeasure Advance a v) (withMeasure Offset a w) lt e₁ e₂
-      ∙ update-as i ss (λ s. withMeasure Offset a w (withMeasure Advance a v s)) (pulled a z) (rw (w-is, v-is, m-is, d-is, offset-is))
+      update-both i (withMeasure Advance a v) ss (withMeasure Offset a w) lt e₁ e₂
+      ∙ update-as i (λ s. withMeasure Offset a w (withMeasure Advance a v s)) ss (pulled a z) (rw (w-is, v-is, m-is, d-is, offset-is))
 
 -- ---- across it
 -- the test for the same integer: an integer passes with itself, and with no other
@@ -83,7 +82,7 @@ module _ (a : Axis) (parent : ℕ) (ss : List Slot) (chain here back : ℕ) (sma
   separates lt e e₁ e₂ =
       let z : slot ss parent .chain ≡ negℤ (val chain) = sym here-is ∙ ap val e ∙ back-exact in
       let t : sameAs (slot ss parent .chain) (negℤ (val chain)) ≡ true = rw z (same-self (negℤ (val chain))) in
-      simp t (update-both parent ss (withMeasure Offset a (val 0)) (withChain (val 0)) lt e₁ e₂)
+      simp t (update-both parent (withMeasure Offset a (val 0)) ss (withChain (val 0)) lt e₁ e₂)
 
 -- reversed, hung and separated
 pub tied-is : (a : Axis) (child parent : ℕ) (z : ℤ) (ss : List Slot) {c : ℤ} {ss₁ ss₂ ss₃ : List Slot} → child < length ss → ss₁ ≡ reversed a ss child parent

@@ -1,4 +1,5 @@
--- Chains as code computes them. Assumes nothing.
+-- Chains as code computes them, and a slot hung by one. Assumes nothing.
+use mathlib.Core.List.{List}
 use mathlib.Core.Path.{_≡_, refl, sym, ap, _∙_}
 use mathlib.Core.Logic.{_⊎_, ⊎-elim}
 use Prim.Native.Nat.{ℕ, zero, suc, _+_, _-_, _<_, _≤_}
@@ -6,12 +7,21 @@ use native.Mathlib.Nat.{eq-or-lt-of-le}
 use native.Mathlib.Omega.{arith}
 use borrow.Author.Tests.{le-ltb, lt-ltb}
 use lib.IntN.{ℤ, pos, negsuc, natAbs, negℤ}
+use lib.ListN.{length}
 use lib.Signed.{mag}
 use Rattle.ints.specs.Saturating.{negated}
 use Rattle.ints.specs.Signed.{InBytes, pattern, signed, val}
 use Rattle.ints.proofs.Ints.{by-sign, diff, sub-pos}
 use Rattle.ints.proofs.SaturatingLaws.{negated-exact}
-use Rattle.ints.proofs.SignedLaws.{pattern-signed, signed-high, signed-low}
+use Rattle.ints.proofs.SignedLaws.{pattern-signed, signed-low}
+use Rattle.slots.specs.Slot.{Slot}
+use Rattle.slots.specs.Line.{update}
+use Rattle.slots.specs.Fields.{attached, withByte, withChain, withMeasure}
+use Rattle.slots.specs.declared.axis.Axis.{Axis}
+use Rattle.slots.specs.declared.fields.ByteField.the-variants.{AttachType}
+use Rattle.slots.specs.declared.fields.Measure.the-variants.{Offset}
+use Rattle.slots.proofs.ChainLaws.{back-bits, near-fits}
+use Rattle.slots.proofs.LineLaws.{update-both}
 use Rattle.cursive.specs.Chains.{chainTo, reach}
 
 -- a distance that fits 16 bits is its own chain; any other leaves the slot unattached
@@ -20,10 +30,6 @@ reach-near z h = simp (lt-ltb (mag z) 32768 h)
 
 reach-far : (z : ℤ) → 32768 ≤ mag z → reach z ≡ pos 0
 reach-far z h = simp (le-ltb (mag z) 32768 h)
-
--- a - b fits where a and b are near
-pub near-fits : (a b : ℕ) → a < b + 32768 → b ≤ a + 32768 → mag (diff a b) < 32768
-near-fits a b h k = by-sign (λ z. mag z < 32768) a b (λ l. omega arith) (λ l. omega arith)
 
 -- ---- the chain from a child to a parent
 module _ (child parent : ℕ) where
@@ -41,7 +47,7 @@ module _ (child parent : ℕ) where
   pub chain-before : parent < child → child - parent ≤ 32768
       → (val (4294967296 - (child - parent)) ≡ chainTo child parent) × InBytes 2 (val (4294967296 - (child - parent)))
   chain-before h k =
-      near (4294967296 - (child - parent)) (signed-high 4 (4294967296 - (child - parent)) parent child (omega arith) (omega arith)) (omega arith) (omega arith)
+      near (4294967296 - (child - parent)) (back-bits child parent h k) (omega arith) (omega arith)
 
   -- it is too far
   pub chain-far : (child + 32768 ≤ parent) ⊎ (parent + 32768 < child) → (val 0 ≡ chainTo child parent) × InBytes 2 (val 0)
@@ -51,11 +57,6 @@ module _ (child parent : ℕ) where
       (λ k. by-sign (λ z. 32768 ≤ mag z) parent child (λ l. omega arith) (λ l. absurd (omega arith)))
       (λ k. by-sign (λ z. 32768 ≤ mag z) parent child (λ l. absurd (omega arith)) (λ l. omega arith)) h in
       (sym (ap reach (sub-pos parent child) ∙ reach-far (diff parent child) m), omega arith)
-
--- 0 is a chain
-pub zero-fits : InBytes 2 (val 0)
-unfolding signed
-zero-fits = omega arith
 
 -- ---- a chain negated
 -- the least number of 16 bits has no negation of 16 bits
@@ -80,3 +81,11 @@ back-other v r lt ne h e =
     let m : mag (negℤ (val v)) < 32768 = neg-fits (val v) h other in
     let is : val r ≡ negℤ (val v) = e ∙ negated-exact (val v) (omega arith) in
     (is ∙ sym (reach-near (negℤ (val v)) m), rw is m)
+
+-- ---- offset, chain and type set one after the other hang the slot
+pub hung-by : (i kind : ℕ) (c : ℤ) (a : Axis) (z : ℤ) (ss : List Slot) {ss₁ ss₂ ss₃ : List Slot} → i < length ss → ss₁ ≡ update i (withMeasure Offset a z) ss
+    → ss₂ ≡ update i (withChain c) ss₁ → ss₃ ≡ update i (withByte AttachType kind) ss₂ → ss₃ ≡ update i (λ s. attached kind c (withMeasure Offset a z s)) ss
+hung-by i kind c a z ss lt first second third =
+    update-both i (λ s. withChain c (withMeasure Offset a z s)) ss (withByte AttachType kind) lt
+    (update-both i (withMeasure Offset a z) ss (withChain c) lt first second)
+    third

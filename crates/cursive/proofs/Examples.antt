@@ -11,7 +11,7 @@ use Rattle.ints.specs.Signed.{intAt, signed}
 use Rattle.counts.specs.Tally.{bit, tally}
 use Rattle.slots.specs.Slot.{Slot}
 use Rattle.slots.specs.Line.{update}
-use Rattle.slots.specs.Parent.{parent}
+use Rattle.slots.specs.Parent.{cleared, parent}
 use Rattle.slots.specs.declared.axis.Axis.the-variants.{Y}
 use Rattle.slots.specs.declared.axis.Direction.the-variants.{BottomToTop, LeftToRight, RightToLeft}
 use Rattle.tables.specs.Anchor.{Spot}
@@ -20,7 +20,7 @@ use Rattle.answers.specs.Said.{concat}
 use Rattle.answers.specs.declared.Neighbour.{Neighbour}
 use Rattle.answers.specs.declared.Neighbour.the-variants.{At, Missing}
 use Rattle.cursive.specs.Attachment.{joinedAt, separatedBy, tied}
-use Rattle.cursive.specs.Chains.{attachedCount, chainTo, cleared}
+use Rattle.cursive.specs.Chains.{attachedCount, chainTo}
 use Rattle.cursive.specs.CursivePos.{join, Plan, planOf, stop}
 use Rattle.cursive.specs.Reversal.{reversed, reversedIn, turned}
 use Rattle.cursive.proofs.Sound.{SoundChain}

@@ -1,9 +1,7 @@
-pub mod UpdateLaws
 pub mod CursivePosLaws
 pub mod ChainsLaws
 pub mod ReversalLaws
 pub mod AttachmentLaws
 pub mod DecisionLaws
-pub mod BackLaws
 pub mod Sound
 pub mod Examples

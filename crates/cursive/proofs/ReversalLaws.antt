@@ -4,86 +4,28 @@ use mathlib.Core.List.{List}
 use mathlib.Core.Path.{_≡_, refl, sym, ap, _∙_}
 use Prim.Native.Nat.{ℕ, zero, suc, _<_}
 use native.Mathlib.Omega.{arith}
-use borrow.Author.Tests.{eq-eqb, ltb-true, ne-eqb}
-use lib.Dec.{eqb, ltb}
-use lib.IntN.{ℤ, pos, negsuc, natAbs, negℤ, _+ℤ_}
+use borrow.Author.Tests.{eq-eqb, ne-eqb}
+use lib.Dec.{eqb}
+use lib.IntN.{ℤ, pos, negsuc, natAbs, negℤ}
 use lib.ListN.{length}
 use Rattle.ints.specs.Choice.{if_then_else_}
 use Rattle.ints.specs.Saturating.{negated}
-use Rattle.ints.specs.Signed.{signed, val}
+use Rattle.ints.specs.Signed.{val}
 use Rattle.slots.specs.Slot.{Slot}
 use Rattle.slots.specs.Line.{slot, update}
 use Rattle.slots.specs.Fields.{attached, cursiveBit, offset, withChain, withMeasure}
-use Rattle.slots.specs.Parent.{byParent, parent, parentBy, placed}
+use Rattle.slots.specs.Parent.{byParent, cleared, parent}
 use Rattle.slots.specs.declared.axis.Axis.{Axis}
 use Rattle.slots.specs.declared.fields.Measure.the-variants.{Offset}
 use Rattle.slots.specs.declared.parent.Parent.{Parent}
 use Rattle.slots.specs.declared.parent.Parent.the-variants.{None, Outside, At}
-use Rattle.slots.proofs.LineLaws.{length-update, update-other, update-same}
+use Rattle.slots.proofs.LineLaws.{length-update}
+use Rattle.slots.proofs.ParentLaws.{cleared-count, cleared-is, cleared-other, cleared-own, parent-none}
 use Rattle.counts.proofs.TallyLaws.{tally-drop}
-use Rattle.cursive.specs.Chains.{attachedCount, cleared, isAttached, reach}
+use Rattle.cursive.specs.Chains.{attachedCount, isAttached, reach}
 use Rattle.cursive.specs.Reversal.{reversed, reversedIn, turned}
 
--- ---- parents
--- a slot without a chain has no parent
-pub parent-free : (ss : List Slot) (i : ℕ) → slot ss i .chain ≡ pos 0 → parent ss i ≡ None
-unfolding parent
-parent-free ss i e = ap (parentBy (length ss) i) e
-
--- and a slot without a parent has no chain: a place is never "no parent"
-placed-never : (n : ℕ) (z : ℤ) → placed n z ≡ None → ⊥
-placed-never n (negsuc k) e = let z : _≡_ {A = ℕ} 0 1 = cc in omega arith
-placed-never n (pos k) e = go (ltb k n) refl
-  where
-    go : (t : Bool) → ltb k n ≡ t → ⊥
-    go true t = let w : At k ≡ None = rw t at e in let z : _≡_ {A = ℕ} 0 1 = cc in omega arith
-    go false t = let w : Outside ≡ None = rw t at e in let z : _≡_ {A = ℕ} 0 1 = cc in omega arith
-
--- the same by the chain, and of a line
-by-none : (n i : ℕ) (z : ℤ) → parentBy n i z ≡ None → z ≡ pos 0
-by-none n i (pos zero) e = refl
-by-none n i (pos (suc c)) e = absurd (placed-never n (pos i +ℤ pos (suc c)) e)
-by-none n i (negsuc c) e = absurd (placed-never n (pos i +ℤ negsuc c) e)
-
-pub free-chain : (ss : List Slot) (i : ℕ) → parent ss i ≡ None → slot ss i .chain ≡ pos 0
-unfolding parent
-free-chain ss i e = by-none (length ss) i (slot ss i .chain) e
-
--- a parent that has a place: the place is in the line, and is the slot's number plus the chain
-placed-at : (n : ℕ) (z : ℤ) (j : ℕ) → placed n z ≡ At j → (j < n) × (z ≡ pos j)
-placed-at n (negsuc k) j e = let z : _≡_ {A = ℕ} 0 1 = cc in absurd (omega arith)
-placed-at n (pos k) j e = go (ltb k n) refl
-  where
-    go : (t : Bool) → ltb k n ≡ t → (j < n) × (pos k ≡ pos j)
-    go true t =
-        let is : k ≡ j = let w : At k ≡ At j = rw t at e in cc in
-        (omega (arith, ltb-true k n t), ap pos is)
-    go false t = let w : Outside ≡ At j = rw t at e in let z : _≡_ {A = ℕ} 0 1 = cc in absurd (omega arith)
-
--- the same by the chain, and of a line
-pub by-at : (n i : ℕ) (z : ℤ) (j : ℕ) → parentBy n i z ≡ At j → (j < n) × (pos i +ℤ z ≡ pos j)
-by-at n i (pos zero) j e = let z : _≡_ {A = ℕ} 0 1 = cc in absurd (omega arith)
-by-at n i (pos (suc c)) j e = placed-at n (pos i +ℤ pos (suc c)) j e
-by-at n i (negsuc c) j e = placed-at n (pos i +ℤ negsuc c) j e
-
-pub parent-in : (ss : List Slot) (i j : ℕ) → parent ss i ≡ At j → j < length ss
-unfolding parent
-parent-in ss i j e = by-at (length ss) i (slot ss i .chain) j e .0
-
--- ---- a slot cleared, and a parent hung onto its child
-module _ (ss : List Slot) (i : ℕ) where
-  pub cleared-same : i < length ss → slot (cleared ss i) i ≡ withChain (pos 0) (slot ss i)
-  unfolding cleared
-  cleared-same h = update-same i _ ss h
-
-  pub cleared-other : (k : ℕ) → (k ≡ i → ⊥) → slot (cleared ss i) k ≡ slot ss k
-  unfolding cleared
-  cleared-other k ne = update-other i _ ss k ne
-
-  pub length-cleared : length (cleared ss i) ≡ length ss
-  unfolding cleared
-  length-cleared = length-update i _ ss
-
+-- ---- a parent hung onto its child
 pub length-turned : (a : Axis) (was : Slot) (ss : List Slot) (i j : ℕ) → length (turned a was ss i j) ≡ length ss
 unfolding turned
 length-turned a was ss i j = length-update j _ ss
@@ -101,10 +43,10 @@ chained s = not (eqb (natAbs (s .chain)) 0)
 -- clearing a slot that has a parent leaves one attached slot less
 pub attached-clear : (ss : List Slot) (i : ℕ) → i < length ss → (parent ss i ≡ None → ⊥) → attachedCount ss ≡ suc (attachedCount (cleared ss i))
 unfolding attachedCount
-attached-clear ss i lt ne = rw (length-cleared ss i)
+attached-clear ss i lt ne = rw (cleared-count ss i)
     (tally-drop (isAttached ss) (isAttached (cleared ss i)) (length ss) i lt
-    (ap not (ne-eqb (natAbs (slot ss i .chain)) 0 (λ e. ne (parent-free ss i (abs-zero (slot ss i .chain) e)))))
-    (ap chained (cleared-same ss i lt))
+    (ap not (ne-eqb (natAbs (slot ss i .chain)) 0 (λ e. ne (parent-none ss i (abs-zero (slot ss i .chain) e)))))
+    (ap chained (cleared-own ss i lt))
     (λ k other. sym (ap chained (cleared-other ss i k other))))
 
 -- ---- the number of slots stays
@@ -124,8 +66,8 @@ length-reversedIn : (n : ℕ) (a : Axis) (ss : List Slot) (i p : ℕ) → length
 unfolding reversedIn
 length-reversedIn zero a ss i p = refl
 length-reversedIn (suc n) a ss i p =
-    ways (λ r. length r ≡ length ss) ss (cleared ss i) (λ j. turned a (slot ss i) (reversedIn n a (cleared ss i) j p) i j) p refl (length-cleared ss i)
-    (λ j. length-turned a (slot ss i) (reversedIn n a (cleared ss i) j p) i j ∙ length-reversedIn n a (cleared ss i) j p ∙ length-cleared ss i)
+    ways (λ r. length r ≡ length ss) ss (cleared ss i) (λ j. turned a (slot ss i) (reversedIn n a (cleared ss i) j p) i j) p refl (cleared-count ss i)
+    (λ j. length-turned a (slot ss i) (reversedIn n a (cleared ss i) j p) i j ∙ length-reversedIn n a (cleared ss i) j p ∙ cleared-count ss i)
     (cursiveBit (slot ss i .attachType)) (parent ss i)
 
 pub length-reversed : (a : Axis) (ss : List Slot) (i p : ℕ) → length (reversed a ss i p) ≡ length ss
@@ -189,13 +131,12 @@ module _ (a : Axis) (ss : List Slot) (i p : ℕ) {kind : ℕ} (is : kind ≡ slo
   stays-plain e = sym (reversed-plain a ss i p (rw is at e))
 
   module _ (lt : i < length ss) (on : cursiveBit kind ≡ true) {ss₁ : List Slot} (clears : ss₁ ≡ update i (withChain (val 0)) ss) where
-    -- the bit is that of the slot's type, and code's 0 clears the chain
+    -- the bit is that of the slot's type
     bit : cursiveBit (slot ss i .attachType) ≡ true
     bit = rw is at on
 
     is-cleared : ss₁ ≡ cleared ss i
-    unfolding cleared signed
-    is-cleared = clears
+    is-cleared = cleared-is ss i clears
 
     -- the parent is outside the line, or the new parent: the line with the chain cleared is the answer
     pub ends-outside : parent ss i ≡ Outside → ss₁ ≡ reversed a ss i p

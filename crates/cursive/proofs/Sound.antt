@@ -5,20 +5,24 @@ use mathlib.Core.Path.{_≡_, refl, sym, ap, ap₂, _∙_}
 use Prim.Native.Nat.{ℕ, _<_, _≤_}
 use lib.IntN.{ℤ, pos, negℤ}
 use lib.ListN.{length}
+use native.Mathlib.Omega.{arith}
+use Rattle.ints.proofs.Ints.{diff, neg-diff}
 use Rattle.ints.specs.Saturating.{negated}
 use Rattle.slots.specs.Slot.{Slot}
 use Rattle.slots.specs.Line.{slot}
 use Rattle.slots.specs.Fields.{attached, cursiveBit, offset, withChain, withMeasure}
-use Rattle.slots.specs.Parent.{parent}
+use Rattle.slots.specs.Parent.{cleared, parent}
 use Rattle.slots.specs.declared.axis.Axis.{Axis}
 use Rattle.slots.specs.declared.axis.Axis.the-variants.{X, Y}
 use Rattle.slots.specs.declared.fields.Measure.the-variants.{Offset}
 use Rattle.slots.specs.declared.parent.Parent.the-variants.{None, At}
+use Rattle.slots.proofs.ChainLaws.{near-fits}
 use Rattle.slots.proofs.LineLaws.{update-other, update-same}
-use Rattle.cursive.specs.Chains.{cleared, reach}
+use Rattle.slots.proofs.ParentLaws.{chain-is, chain-zero, cleared-count, cleared-other, cleared-own, parent-in-line, parent-is, parent-same}
+use Rattle.cursive.specs.Chains.{reach}
 use Rattle.cursive.specs.Reversal.{reversed, turned}
-use Rattle.cursive.proofs.BackLaws.{leads-back}
-use Rattle.cursive.proofs.ReversalLaws.{cleared-other, cleared-same, free-chain, length-cleared, length-turned, parent-in, reversed-free, reversed-on}
+use Rattle.cursive.proofs.ChainsLaws.{reach-near}
+use Rattle.cursive.proofs.ReversalLaws.{length-turned, reversed-free, reversed-on}
 
 -- ---- what is asked
 -- slot i hangs on slot j by a type that reversal follows
@@ -80,8 +84,7 @@ pub record Reversed (a : Axis) (ss : List Slot) (i : ℕ) (js : List ℕ) (r : L
 module _ (ss : List Slot) (i : ℕ) where
   -- other slots hang as they did
   parent-kept : (k : ℕ) → (k ≡ i → ⊥) → parent (cleared ss i) k ≡ parent ss k
-  unfolding parent
-  parent-kept k ne = rw (length-cleared ss i, cleared-other ss i k ne)
+  parent-kept k ne = parent-same ss (cleared ss i) k (cleared-count ss i) (cleared-other ss i k ne)
 
   -- and so does a chain that slot i is not on
   chain-kept : (j : ℕ) (js : List ℕ) → Apart i (j ∷ js) → Chain ss j js → Chain (cleared ss i) j js
@@ -89,7 +92,7 @@ module _ (ss : List Slot) (i : ℕ) where
   chain-kept j (k ∷ js) out on =
       let ne : j ≡ i → ⊥ = λ e. out .0 (sym e) in (
         record {
-          in-line = rw (length-cleared ss i) (on .0 .in-line);
+          in-line = rw (cleared-count ss i) (on .0 .in-line);
           cursive = rw (cleared-other ss i j ne) (on .0 .cursive);
           hangs-on = parent-kept j ne ∙ on .0 .hangs-on;
         },
@@ -107,7 +110,15 @@ hung-again : (a : Axis) (t : ℕ) (c d z : ℤ) (s : Slot) → _≡_ {A = Slot} 
 hung-again X t c d z s = refl
 hung-again Y t c d z s = refl
 
--- in a line whose distances fit a chain, what was hung hangs
+-- in a line whose distances fit a chain, a slot's chain, negated, leads back from its parent
+leads-back : (ss r : List Slot) (i j : ℕ) → length r ≡ length ss → length ss ≤ 32768 → i < length ss → (i ≡ j → ⊥) → parent ss i ≡ At j
+    → slot r j .chain ≡ reach (negℤ (slot ss i .chain)) → parent r j ≡ At i
+leads-back ss r i j n short h ne on is =
+    let k : j < length ss = parent-in-line ss i j on in
+    let back : slot r j .chain ≡ diff i j = is ∙ ap (λ z. reach (negℤ z)) (chain-is ss i j on) ∙ ap reach (neg-diff j i) ∙ reach-near (diff i j) (near-fits i j (omega arith) (omega arith)) in
+    parent-is r j i (omega arith) ne back
+
+-- so what was hung hangs
 hang-back : (a : Axis) (ss r : List Slot) → length r ≡ length ss → length ss ≤ 32768 → (i : ℕ) (js : List ℕ) → Chain ss i js → Distinct (i ∷ js)
     → AllTurned a ss r i js → Backwards r i js
 hang-back a ss r n short i [] chain apart w = tt
@@ -125,11 +136,11 @@ module _ (a : Axis) (ss : List Slot) (i j : ℕ) (js : List ℕ) (r : List Slot)
 
   -- it has as many slots
   length-on : length on ≡ length ss
-  length-on = length-turned a (slot ss i) r i j ∙ rest .count-kept ∙ length-cleared ss i
+  length-on = length-turned a (slot ss i) r i j ∙ rest .count-kept ∙ cleared-count ss i
 
   -- slot i is not on the rest of the chain: after the recursion it is as it was but for its chain
   child-after : slot r i ≡ withChain (pos 0) (slot ss i)
-  child-after = rest .others-kept i (apart .0) ∙ cleared-same ss i (chain .0 .in-line)
+  child-after = rest .others-kept i (apart .0) ∙ cleared-own ss i (chain .0 .in-line)
 
   -- it differs from r in slot j alone
   on-other : (k : ℕ) → (k ≡ j → ⊥) → slot on k ≡ slot r k
@@ -140,7 +151,7 @@ module _ (a : Axis) (ss : List Slot) (i j : ℕ) (js : List ℕ) (r : List Slot)
   on-parent : slot on j ≡ hungOnto a (slot ss i) (slot ss j)
   unfolding turned
   on-parent =
-      let in-line : j < length r = rw (rest .count-kept, length-cleared ss i) (parent-in ss i j (chain .0 .hangs-on)) in
+      let in-line : j < length r = rw (rest .count-kept, cleared-count ss i) (parent-in-line ss i j (chain .0 .hangs-on)) in
       update-same j _ r in-line
       ∙ rw (child-after, offset-kept a (pos 0) (slot ss i), rest .first-freed, cleared-other ss i j (λ e. apart .0 .0 (sym e)), hung-again a (slot ss i .attachType))
 
@@ -169,7 +180,7 @@ pub reversal-sound : (a : Axis) (js : List ℕ) (ss : List Slot) (i p : ℕ) →
 reversal-sound a [] ss i p h = rw (reversed-free a ss i p (h .linked))
     (record {
       count-kept = refl;
-      first-freed = ap (λ (c : ℤ). withChain c (slot ss i)) (free-chain ss i (h .linked));
+      first-freed = ap (λ (c : ℤ). withChain c (slot ss i)) (chain-zero ss i (h .linked));
       parents-turned = tt;
       backwards = λ short. tt;
       others-kept = λ k out. refl;

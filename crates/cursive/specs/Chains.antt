@@ -8,8 +8,7 @@ use lib.ListN.{length}
 use lib.Signed.{mag}
 use Rattle.ints.specs.Choice.{if_then_else_}
 use Rattle.slots.specs.Slot.{Slot}
-use Rattle.slots.specs.Line.{slot, update}
-use Rattle.slots.specs.Fields.{withChain}
+use Rattle.slots.specs.Line.{slot}
 use Rattle.counts.specs.Tally.{tally}
 
 -- the chain for a distance: 0, not attached, where the distance doesn't fit 16 bits
@@ -19,10 +18,6 @@ reach z = if ltb (mag z) 32768 then z else pos 0
 -- the chain by which a child hangs on a parent
 abbrev pub chainTo : ℕ → ℕ → ℤ
 chainTo child parent = reach (pos parent -ℤ pos child)
-
--- the line with slot i unattached
-unfoldable pub cleared : List Slot → ℕ → List Slot
-cleared ss i = update i (withChain (pos 0)) ss
 
 -- how many slots are attached
 abbrev pub isAttached : List Slot → ℕ → Bool

@@ -8,10 +8,10 @@ use Rattle.ints.specs.Saturating.{negated}
 use Rattle.slots.specs.Slot.{Slot}
 use Rattle.slots.specs.Line.{slot, update}
 use Rattle.slots.specs.Fields.{attached, cursiveBit, offset, withMeasure}
-use Rattle.slots.specs.Parent.{byParent, parent}
+use Rattle.slots.specs.Parent.{byParent, cleared, parent}
 use Rattle.slots.specs.declared.axis.Axis.{Axis}
 use Rattle.slots.specs.declared.fields.Measure.the-variants.{Offset}
-use Rattle.cursive.specs.Chains.{attachedCount, cleared, reach}
+use Rattle.cursive.specs.Chains.{attachedCount, reach}
 
 -- the parent j hung onto its child i: by the whole type byte and the negated chain that the child had (`was`), with the child's offset, as it is by now, negated
 unfoldable pub turned : Axis → Slot → List Slot → ℕ → ℕ → List Slot

@@ -11,13 +11,13 @@ use Rattle.ints.specs.Choice.{if_then_else_}
 use Rattle.slots.specs.Axis.{forward}
 use Rattle.slots.specs.Slot.{Slot, noSlot}
 use Rattle.slots.specs.Line.{slot}
-use Rattle.slots.specs.Parent.{parent}
+use Rattle.slots.specs.Parent.{cleared, parent}
 use Rattle.slots.specs.declared.axis.Direction.{Direction}
 use Rattle.slots.specs.declared.parent.Parent.{Parent}
 use Rattle.slots.specs.declared.parent.Parent.the-variants.{None, Outside, At}
-use Rattle.finish.specs.Finish.{cleared, finished, settled, settledDown, settledUp}
-use Rattle.finish.proofs.Parents.{chain-zero}
-use Rattle.finish.proofs.SettledLaws.{cleared-count, cleared-other, cleared-own, finished-count, joined-chain, settled-at, settled-holds, settled-none, settled-outside, settled-stop}
+use Rattle.slots.proofs.ParentLaws.{chain-zero, cleared-count, cleared-other, cleared-own}
+use Rattle.finish.specs.Finish.{finished, settled, settledDown, settledUp}
+use Rattle.finish.proofs.SettledLaws.{finished-count, joined-chain, settled-at, settled-holds, settled-none, settled-outside, settled-stop}
 
 -- slot k's chain
 abbrev chainAt : List Slot → ℕ → ℤ

@@ -17,10 +17,10 @@ use Rattle.slots.specs.Fields.{advance, offset}
 use Rattle.slots.specs.declared.axis.Axis.{Axis}
 use Rattle.slots.specs.declared.axis.Axis.the-variants.{X, Y}
 use Rattle.slots.specs.declared.axis.Direction.{Direction}
+use Rattle.slots.proofs.ParentLaws.{parent-in-line}
 use Rattle.finish.specs.Finish.{advances, free, isMain, Kind, mark, cursive, neither, kindOf, taken, walked, withOffsets}
 use Rattle.finish.specs.Demand3.{Bounded, pen}
 use Rattle.finish.proofs.Along.{along, along-holds}
-use Rattle.finish.proofs.Parents.{parent-in}
 use Rattle.finish.proofs.Pens.{pen-near, walk-exact, walked-by}
 use Rattle.finish.proofs.WalkLaws.{getD-advances}
 
@@ -123,7 +123,7 @@ module _ (d : Direction) (limit : ℕ) (l : List Slot) (ok : Bounded limit l) wh
   anchored a m =
       along-holds l (λ k. free (slot l k)) (onto d l) (λ n i s. i < length l → Anchored (pen d a l i) (offset a s) n)
       (λ n i lt. rw (offset-free (slot l i) a) (anchored-own a n i lt))
-      (λ n i j s e up lt. rw (offset-onto d l i j s a, m) (anchored-on a n i j lt (kindOf (slot l i .attachType)) (offset a s) (up (parent-in l i j e))))
+      (λ n i j s e up lt. rw (offset-onto d l i j s a, m) (anchored-on a n i j lt (kindOf (slot l i .attachType)) (offset a s) (up (parent-in-line l i j e))))
 
   -- across the line each hop adds one offset at most, or starts from two pen places
   small-on : (a : Axis) (n i j : ℕ) → i < length l → (k : Kind) (o : ℤ) → natAbs o ≤ suc n * 524288 + 1073741824
@@ -145,7 +145,7 @@ module _ (d : Direction) (limit : ℕ) (l : List Slot) (ok : Bounded limit l) wh
   small a m =
       along-holds l (λ k. free (slot l k)) (onto d l) (λ n i s. i < length l → natAbs (offset a s) ≤ suc n * 524288 + 1073741824)
       (λ n i lt. rw (offset-free (slot l i) a) (omega (arith, ok .offsets-near i a lt)))
-      (λ n i j s e up lt. rw (offset-onto d l i j s a, m) (small-on a n i j lt (kindOf (slot l i .attachType)) (offset a s) (up (parent-in l i j e))))
+      (λ n i j s e up lt. rw (offset-onto d l i j s a, m) (small-on a n i j lt (kindOf (slot l i .attachType)) (offset a s) (up (parent-in-line l i j e))))
 
   -- 65 times 524,288, and two pen places
   pub final-near : (a : Axis) (i : ℕ) → i < length l → natAbs (offset a (final d l limit i)) ≤ 1107820544

@@ -9,9 +9,9 @@ use Rattle.ints.specs.Sums.{stepwise}
 use Rattle.slots.specs.Slot.{Slot, noSlot}
 use Rattle.slots.specs.Line.{update}
 use Rattle.slots.specs.Fields.{attached, moved}
-use Rattle.slots.specs.Parent.{parent}
+use Rattle.slots.specs.Parent.{cleared, parent}
 use Rattle.slots.specs.declared.axis.Direction.the-variants.{LeftToRight, RightToLeft, TopToBottom}
-use Rattle.finish.specs.Finish.{cleared, finished, joined, settled, settledDown, settledUp, walked}
+use Rattle.finish.specs.Finish.{finished, joined, settled, settledDown, settledUp, walked}
 
 -- a slot of the type k, with chain c, x advance a and offsets
 abbrev pub made : ℕ → ℤ → ℤ → ℤ → ℤ → Slot

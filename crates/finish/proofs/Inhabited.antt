@@ -14,10 +14,10 @@ use Rattle.slots.specs.declared.axis.Direction.{Direction}
 use Rattle.slots.specs.declared.fields.Measure.{Measure}
 use Rattle.slots.specs.declared.fields.Measure.the-variants.{Advance, Offset}
 use Rattle.slots.specs.declared.parent.Parent.the-variants.{At}
+use Rattle.slots.proofs.ParentLaws.{none-ends}
 use Rattle.finish.specs.Finish.{finished}
 use Rattle.finish.specs.Demand3.{Bounded, Demand3, EndsWithin, Mark}
 use Rattle.finish.proofs.Examples.{example}
-use Rattle.finish.proofs.Parents.{none-ends}
 use Rattle.finish.proofs.Theorem.{demand3}
 
 -- the base ends its chain, and each hop to the slot before is one more

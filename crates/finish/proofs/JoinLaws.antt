@@ -17,7 +17,7 @@ use Rattle.slots.specs.declared.axis.Axis.the-variants.{X, Y}
 use Rattle.slots.specs.declared.axis.Direction.{Direction}
 use Rattle.slots.specs.declared.axis.Direction.the-variants.{LeftToRight, RightToLeft, TopToBottom, BottomToTop}
 use Rattle.slots.specs.declared.fields.Measure.the-variants.{Offset}
-use Rattle.slots.proofs.LineLaws.{update-twice}
+use Rattle.slots.proofs.LineLaws.{update-both}
 use Rattle.finish.specs.Finish.{isMain, joined, mark, cursive, neither, kindOf, newOffset, taken, walked, withOffsets}
 
 -- what a mark walks from: its own offset, on the main axis with its parent's added
@@ -58,7 +58,7 @@ module _ (d : Direction) (l : List Slot) (i j : ℕ) where
       → l₁ ≡ update i (withMeasure Offset X x′) l → l₂ ≡ update i (withMeasure Offset Y y′) l₁ → l₂ ≡ joined d l i j
   unfolding joined
   joined-mark {x′ = x′} {y′ = y′} lt t x-is y-is to one two =
-      two ∙ ap (update i (withMeasure Offset Y y′)) one ∙ update-twice i (withMeasure Offset X x′) l (withMeasure Offset Y y′) lt
+      update-both i (withMeasure Offset X x′) l (withMeasure Offset Y y′) lt one two
       ∙ ap₂ (λ u v. update i (withOffsets u v) l) (mark-offset t X x-is (to .0)) (mark-offset t Y y-is (to .1))
 
   -- a cursive glyph: the cross offset written

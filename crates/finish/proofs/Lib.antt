@@ -1,4 +1,3 @@
-pub mod Parents
 pub mod WalkLaws
 pub mod JoinLaws
 pub mod SettledLaws

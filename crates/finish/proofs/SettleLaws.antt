@@ -11,39 +11,38 @@ use Rattle.slots.specs.Axis.{forward}
 use Rattle.slots.specs.Slot.{Slot}
 use Rattle.slots.specs.Line.{count, slot, slots, update}
 use Rattle.slots.specs.Fields.{withChain}
-use Rattle.slots.specs.Parent.{parent}
+use Rattle.slots.specs.Parent.{cleared, parent}
 use Rattle.slots.specs.declared.axis.Direction.{Direction}
 use Rattle.slots.specs.declared.parent.Parent.{Parent}
 use Rattle.slots.specs.declared.parent.Parent.the-variants.{None, Outside, At}
 use Rattle.slots.proofs.LineLaws.{length-slots}
-use Rattle.finish.specs.Finish.{cleared, finished, joined, settled, settledDown, settledUp}
-use Rattle.finish.proofs.Parents.{parent-in, parent-none}
+use Rattle.slots.proofs.ParentLaws.{cleared-is, parent-in-line, parent-none}
+use Rattle.finish.specs.Finish.{finished, joined, settled, settledDown, settledUp}
 use Rattle.finish.proofs.SettledLaws.{settled-at, settled-none, settled-outside, settled-stop}
 
 -- a parent in the line is a slot of its bytes
 pub parent-counted : (l : List ℕ) (i j : ℕ) {p : Parent} → p ≡ parent (slots l) i → p ≡ At j → j < count l
-parent-counted l i j is e = omega (arith, parent-in (slots l) i j (sym is ∙ e), length-slots l)
+parent-counted l i j is e = omega (arith, parent-in-line (slots l) i j (sym is ∙ e), length-slots l)
 
 module _ (d : Direction) (n : ℕ) (l : List Slot) (i : ℕ) {p : Parent} (is : p ≡ parent l i) where
   pub settles-none : p ≡ None → l ≡ settled d n l i
   settles-none e = sym (settled-none d l i n (sym is ∙ e))
 
   module _ {l₁ : List Slot} (clears : l₁ ≡ update i (withChain (val 0)) l) where
-    cleared-is : l₁ ≡ cleared l i
-    unfolding cleared signed
-    cleared-is = clears
+    is-cleared : l₁ ≡ cleared l i
+    is-cleared = cleared-is l i clears
 
     pub settles-outside : p ≡ Outside → l₁ ≡ settled d n l i
-    settles-outside e = cleared-is ∙ sym (settled-outside d l i n (sym is ∙ e))
+    settles-outside e = is-cleared ∙ sym (settled-outside d l i n (sym is ∙ e))
 
     pub settles-stop : {j : ℕ} → p ≡ At j → n ≡ 0 → l₁ ≡ settled d n l i
-    settles-stop {j} e out = cleared-is ∙ sym (settled-stop d l i j (sym is ∙ e)) ∙ ap (λ (m : ℕ). settled d m l i) (sym out)
+    settles-stop {j} e out = is-cleared ∙ sym (settled-stop d l i j (sym is ∙ e)) ∙ ap (λ (m : ℕ). settled d m l i) (sym out)
 
     pub settles-at : {j : ℕ} {l₂ l₃ : List Slot} → p ≡ At j → (n ≡ 0 → ⊥) → l₂ ≡ settled d (n - 1) l₁ j → l₃ ≡ joined d l₂ i j → l₃ ≡ settled d n l i
     settles-at {j} e left up joins =
         let more : 0 < n = pos-of-ne-zero left in
         let one : n ≡ suc (n - 1) = omega arith in
-        joins ∙ ap (λ m. joined d m i j) (up ∙ ap (λ m. settled d (n - 1) m j) cleared-is)
+        joins ∙ ap (λ m. joined d m i j) (up ∙ ap (λ m. settled d (n - 1) m j) is-cleared)
         ∙ sym (settled-at d l i (n - 1) j (sym is ∙ e)) ∙ ap (λ (m : ℕ). settled d m l i) (sym one)
 
 -- a chain that is 0, as code reads it: v

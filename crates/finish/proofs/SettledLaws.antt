@@ -11,14 +11,15 @@ use Rattle.slots.specs.Axis.{forward}
 use Rattle.slots.specs.Slot.{Slot, noSlot}
 use Rattle.slots.specs.Line.{slot, update}
 use Rattle.slots.specs.Fields.{advance}
-use Rattle.slots.specs.Parent.{byParent, parent}
+use Rattle.slots.specs.Parent.{byParent, cleared, parent}
 use Rattle.slots.specs.declared.axis.Axis.{Axis}
 use Rattle.slots.specs.declared.axis.Axis.the-variants.{X, Y}
 use Rattle.slots.specs.declared.axis.Direction.{Direction}
 use Rattle.slots.specs.declared.parent.Parent.{Parent}
 use Rattle.slots.specs.declared.parent.Parent.the-variants.{None, Outside, At}
 use Rattle.slots.proofs.LineLaws.{length-update, update-other, update-same}
-use Rattle.finish.specs.Finish.{advances, cleared, finished, free, joined, newOffset, settled, settledDown, settledUp, withOffsets}
+use Rattle.slots.proofs.ParentLaws.{cleared-count}
+use Rattle.finish.specs.Finish.{advances, finished, free, joined, newOffset, settled, settledDown, settledUp, withOffsets}
 
 -- ---- one way through `settled` for each kind of parent
 module _ (d : Direction) (m : List Slot) (i : ℕ) where
@@ -57,21 +58,9 @@ advance-moved X ox oy s = refl
 advance-moved Y ox oy s = refl
 
 module _ (m : List Slot) (i : ℕ) where
-  pub cleared-count : length (cleared m i) ≡ length m
-  unfolding cleared
-  cleared-count = length-update i free m
-
   pub cleared-advances : (a : Axis) → advances a (cleared m i) ≡ advances a m
   unfolding cleared
   cleared-advances a = map-update (advance a) i free m (advance-free a (slot m i))
-
-  pub cleared-own : i < length m → slot (cleared m i) i ≡ free (slot m i)
-  unfolding cleared
-  cleared-own lt = update-same i free m lt
-
-  pub cleared-other : (k : ℕ) → (k ≡ i → ⊥) → slot (cleared m i) k ≡ slot m k
-  unfolding cleared
-  cleared-other k ne = update-other i free m k ne
 
   module _ (d : Direction) (j : ℕ) where
     takes : Slot → Slot

@@ -13,19 +13,19 @@ use Rattle.slots.specs.Axis.{forward}
 use Rattle.slots.specs.Slot.{Slot, noSlot}
 use Rattle.slots.specs.Line.{slot}
 use Rattle.slots.specs.Fields.{offset, withChain}
-use Rattle.slots.specs.Parent.{parent}
+use Rattle.slots.specs.Parent.{cleared, parent}
 use Rattle.slots.specs.declared.axis.Axis.{Axis}
 use Rattle.slots.specs.declared.axis.Axis.the-variants.{X, Y}
 use Rattle.slots.specs.declared.axis.Direction.{Direction}
 use Rattle.slots.specs.declared.parent.Parent.{Parent}
 use Rattle.slots.specs.declared.parent.Parent.the-variants.{None, Outside, At}
-use Rattle.finish.specs.Finish.{advances, cleared, finished, free, isMain, joined, kindOf, newOffset, settled, settledDown, settledUp, withOffsets}
+use Rattle.slots.proofs.ParentLaws.{at-hangs, chain-zero, child-in-line, cleared-count, cleared-other, cleared-own, none-ends, outside-ends, outside-hangs, parent-in-line, parent-none, parent-same}
+use Rattle.finish.specs.Finish.{advances, finished, free, isMain, joined, kindOf, newOffset, settled, settledDown, settledUp, withOffsets}
 use Rattle.finish.specs.Demand3.{Bounded}
 use Rattle.finish.proofs.Along.{along, along-at, along-end, along-holds}
-use Rattle.finish.proofs.Parents.{at-hangs, chain-zero, child-in, none-ends, outside-ends, outside-hangs, parent-in, parent-none, parent-same}
 use Rattle.finish.proofs.Pens.{walked-same}
 use Rattle.finish.proofs.Exact.{exactOffset, final, final-near, offset-free, onto, taken-exact}
-use Rattle.finish.proofs.SettledLaws.{cleared-advances, cleared-count, cleared-other, cleared-own, joined-advances, joined-count, joined-other, joined-own, settled-at, settled-holds, settled-none, settled-outside}
+use Rattle.finish.proofs.SettledLaws.{cleared-advances, joined-advances, joined-count, joined-other, joined-own, settled-at, settled-holds, settled-none, settled-outside}
 
 -- how many hops a chain has, counted up to n
 abbrev hopsIn : List Slot → ℕ → ℕ → ℕ
@@ -52,13 +52,13 @@ module _ (d : Direction) (limit : ℕ) (l : List Slot) (ok : Bounded limit l) wh
 
   -- by one hop, and where the chain ends
   pub fin-at : (i j : ℕ) → parent l i ≡ At j → fin i ≡ onto d l i j (fin j)
-  fin-at i j e = along-at l (λ k. free (slot l k)) (onto d l) limit i j (ok .chains-end i (child-in l i j e)) e
+  fin-at i j e = along-at l (λ k. free (slot l k)) (onto d l) limit i j (ok .chains-end i (child-in-line l i j e)) e
 
   pub fin-end : (i : ℕ) → ((j : ℕ) → parent l i ≡ At j → ⊥) → fin i ≡ free (slot l i)
   fin-end i h = along-end l (λ k. free (slot l k)) (onto d l) limit i h
 
   hops-at : (i j : ℕ) → parent l i ≡ At j → hops i ≡ suc (hops j)
-  hops-at i j e = along-at l (λ k. 0) (λ k j r. suc r) limit i j (ok .chains-end i (child-in l i j e)) e
+  hops-at i j e = along-at l (λ k. 0) (λ k j r. suc r) limit i j (ok .chains-end i (child-in-line l i j e)) e
 
   -- ---- a line on the way: as many slots, the same advances
   record Like (m : List Slot) : Type 0 where
@@ -92,12 +92,12 @@ module _ (d : Direction) (limit : ℕ) (l : List Slot) (ok : Bounded limit l) wh
     new-exact : (a : Axis) → newOffset d m i j a ≡ exactOffset d l i j (fin j) a
     new-exact a =
         rw (walked-same d a l m i j (same .advs a), own, par, offset-free (slot l i) a)
-        (taken-exact d limit l ok a i j (child-in l i j e) (parent-in l i j e) (kindOf (slot l i .attachType)) (isMain d a) (offset a (fin j))
-        (final-near d limit l ok a j (parent-in l i j e)))
+        (taken-exact d limit l ok a i j (child-in-line l i j e) (parent-in-line l i j e) (kindOf (slot l i .attachType)) (isMain d a) (offset a (fin j))
+        (final-near d limit l ok a j (parent-in-line l i j e)))
 
     joined-final : slot (joined d m i j) i ≡ fin i
     joined-final =
-        joined-own m i d j (omega (arith, same .count, child-in l i j e))
+        joined-own m i d j (omega (arith, same .count, child-in-line l i j e))
         ∙ ap (withOffsets (newOffset d m i j X) (newOffset d m i j Y)) own
         ∙ ap₂ (λ u v. withOffsets u v (free (slot l i))) (new-exact X) (new-exact Y)
         ∙ sym (fin-at i j e)
@@ -133,7 +133,7 @@ module _ (d : Direction) (limit : ℕ) (l : List Slot) (ok : Bounded limit l) wh
       m₂ = settled d n (cleared m i) j
 
       waiting : slot (cleared m i) i ≡ free (slot l i)
-      waiting = cleared-own m i (child-in m i j on) ∙ ap free own
+      waiting = cleared-own m i (child-in-line m i j on) ∙ ap free own
 
       kept : Goes (cleared m i) m₂ i → slot m₂ i ≡ free (slot l i)
       kept (inl same) = same ∙ waiting
@@ -177,7 +177,7 @@ module _ (d : Direction) (limit : ℕ) (l : List Slot) (ok : Bounded limit l) wh
   settles (suc n) m i lt le h g =
       turn (suc n) m i lt h g
       (λ j e own. hop n m i j h own e
-      (settles n (cleared m i) j (parent-in l i j e) (omega (arith, hops-at i j e)) (like-cleared m i h) (good-cleared m i j e g)))
+      (settles n (cleared m i) j (parent-in-line l i j e) (omega (arith, hops-at i j e)) (like-cleared m i h) (good-cleared m i j e g)))
 
   -- ---- the loops
   -- the line on the way, with the slots from a up to b final
@@ -244,4 +244,4 @@ module _ (d : Direction) (limit : ℕ) (l : List Slot) (ok : Bounded limit l) wh
       go (no ge) =
           let here : slot l i ≡ noSlot = List·getD-eq-default l noSlot {n = i} (omega arith) in
           let there : slot (finished d limit true l) i ≡ noSlot = List·getD-eq-default (finished d limit true l) noSlot {n = i} (omega (arith, reached .like .count)) in
-          there ∙ ap free (sym here) ∙ sym (fin-end i (λ j e. ge (child-in l i j e)))
+          there ∙ ap free (sym here) ∙ sym (fin-end i (λ j e. ge (child-in-line l i j e)))

@@ -16,7 +16,8 @@ use Rattle.slots.specs.Fields.{offset, withChain}
 use Rattle.slots.specs.declared.axis.Axis.{Axis}
 use Rattle.slots.specs.declared.axis.Axis.the-variants.{X, Y}
 use Rattle.slots.specs.declared.axis.Direction.{Direction}
-use Rattle.finish.specs.Finish.{advances, between, cleared, finished, free, joined, Kind, mark, cursive, neither, kindOf, isMain, newOffset, stepBy, subtracts, taken, walked, withOffsets}
+use Rattle.slots.specs.Parent.{cleared}
+use Rattle.finish.specs.Finish.{advances, between, finished, free, joined, Kind, mark, cursive, neither, kindOf, isMain, newOffset, stepBy, subtracts, taken, walked, withOffsets}
 use Rattle.finish.proofs.SettledLaws.{finished-holds}
 
 -- ---- one slot of a line

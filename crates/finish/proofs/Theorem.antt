@@ -16,10 +16,10 @@ use Rattle.slots.specs.declared.axis.Direction.{Direction}
 use Rattle.slots.specs.declared.axis.Direction.the-variants.{LeftToRight, RightToLeft, TopToBottom, BottomToTop}
 use Rattle.slots.specs.declared.parent.Parent.{Parent}
 use Rattle.slots.specs.declared.parent.Parent.the-variants.{None, Outside, At}
+use Rattle.slots.proofs.ParentLaws.{none-ends, outside-ends}
 use Rattle.finish.specs.Finish.{finished, free, isMain, kindOf, withOffsets}
 use Rattle.finish.specs.Demand3.{Bounded, Cursive, Demand3, Kept, Mark, pen}
 use Rattle.finish.proofs.Along.{along-holds}
-use Rattle.finish.proofs.Parents.{none-ends, outside-ends}
 use Rattle.finish.proofs.Exact.{exact, final, offset-free, offset-onto, onto}
 use Rattle.finish.proofs.SettledLaws.{finished-advances, finished-count}
 use Rattle.finish.proofs.Settling.{fin-at, fin-end, final-chain, finished-slot}

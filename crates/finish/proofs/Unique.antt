@@ -20,9 +20,9 @@ use Rattle.slots.specs.declared.axis.Direction.{Direction}
 use Rattle.slots.specs.declared.axis.Direction.the-variants.{LeftToRight, RightToLeft, TopToBottom, BottomToTop}
 use Rattle.slots.specs.declared.parent.Parent.{Parent}
 use Rattle.slots.specs.declared.parent.Parent.the-variants.{None, Outside, At}
+use Rattle.slots.proofs.ParentLaws.{none-ends, outside-ends}
 use Rattle.finish.specs.Finish.{advances, finished}
 use Rattle.finish.specs.Demand3.{Bounded, Cursive, Demand3, EndsWithin, Kept, Mark, pen, penOf}
-use Rattle.finish.proofs.Parents.{none-ends, outside-ends}
 use Rattle.finish.proofs.WalkLaws.{getD-advances}
 use Rattle.finish.proofs.Theorem.{demand3}
 

@@ -13,7 +13,7 @@ use Rattle.slots.specs.Axis.{forward, main}
 use Rattle.slots.specs.Slot.{Slot}
 use Rattle.slots.specs.Line.{slot, update}
 use Rattle.slots.specs.Fields.{advance, moved, offset, withChain}
-use Rattle.slots.specs.Parent.{byParent, parent}
+use Rattle.slots.specs.Parent.{byParent, cleared, parent}
 use Rattle.slots.specs.declared.axis.Axis.{Axis}
 use Rattle.slots.specs.declared.axis.Axis.the-variants.{X, Y}
 use Rattle.slots.specs.declared.axis.Direction.{Direction}
@@ -90,10 +90,6 @@ withOffsets ox oy s = moved (s .xAdvance) (s .yAdvance) ox oy s
 
 abbrev pub free : Slot → Slot
 free s = withChain (pos 0) s
-
--- the line with slot i unattached
-unfoldable pub cleared : List Slot → ℕ → List Slot
-cleared l i = update i free l
 
 -- the line with slot i having taken its parent j in
 unfoldable pub joined : Direction → List Slot → ℕ → ℕ → List Slot

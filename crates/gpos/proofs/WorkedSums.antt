@@ -15,19 +15,20 @@ use Rattle.slots.specs.Axis.{directionOf}
 use Rattle.slots.specs.Checks.{some}
 use Rattle.slots.specs.Fields.{attached, moved, named}
 use Rattle.slots.specs.Line.{bytes, slot, slots, slotsN, update}
-use Rattle.slots.specs.Parent.{parent}
+use Rattle.slots.specs.Parent.{cleared, parent}
 use Rattle.slots.specs.Slot.{bytesOf, noSlot, Slot, slotOf}
+use Rattle.tables.specs.Header.{headerGood}
 use Rattle.tables.specs.Spans.{ascends, firstHolding, spanAt, spansFrom}
 use Rattle.values.specs.Format.{setBelow}
 use Rattle.values.specs.Touch.{touches}
 use Rattle.values.specs.Value.{fieldsWork, valued, withFields, worked as recordWorked}
-use Rattle.single.specs.SinglePos.{headerGood as singleHeader, placeFor, singleGood}
+use Rattle.single.specs.SinglePos.{placeFor, singleGood}
 use Rattle.ints.proofs.Examples.{words}
-use Rattle.pair.specs.PairPos.{classesGood, headerGood as pairHeader, pairGood}
+use Rattle.pair.specs.PairPos.{classesGood, pairGood}
 use Rattle.pair.specs.PairSet.{probeIn}
 use Rattle.pair.specs.Plan.{planOf as pairPlan}
 use Rattle.cursive.specs.Attachment.{joinedAt, separatedBy, tied}
-use Rattle.cursive.specs.Chains.{attachedCount, cleared as unchained}
+use Rattle.cursive.specs.Chains.{attachedCount}
 use Rattle.cursive.specs.CursivePos.{planOf as cursivePlan}
 use Rattle.cursive.specs.Reversal.{reversed, reversedIn, turned}
 use Rattle.marks.specs.MarkPos.{anchorsFor, baseIndex, componentIndex, markIndex, marksGood}
@@ -35,7 +36,7 @@ use Rattle.marks.specs.Plan.{planOf as markPlan}
 use Rattle.marks.specs.Search.{nearest, stopsAt}
 use Rattle.marks.specs.Walk.{crossWalk, walkIn}
 use Rattle.marks.specs.declared.subtable.Kind.the-variants.{Ligature}
-use Rattle.finish.specs.Finish.{cleared, finished, joined, settled, settledUp, walked}
+use Rattle.finish.specs.Finish.{finished, joined, settled, settledUp, walked}
 use Rattle.answers.specs.Said.{applied, break, concat, Said}
 use Rattle.answers.specs.declared.Neighbour.the-variants.{At}
 use Rattle.gpos.proofs.Results as call
@@ -182,7 +183,7 @@ table =
 -- each figure by the definitions is the one that document 01 gives
 pub worked-sums : map (λ (x : Row). x .found) table ≡ map (λ (x : Row). x .given) table
 unfolding natAt digits pattern intAt signed clamp32 floorDiv scaled stepwise bit tally some bytes bytesOf slotOf slots slotsN update parent
-    ascends firstHolding spanAt spansFrom setBelow touches fieldsWork valued withFields recordWorked singleHeader placeFor singleGood
-    classesGood pairHeader pairGood probeIn pairPlan joinedAt separatedBy tied attachedCount unchained cursivePlan reversed reversedIn turned
+    ascends firstHolding spanAt spansFrom setBelow touches fieldsWork valued withFields recordWorked headerGood placeFor singleGood
+    classesGood pairGood probeIn pairPlan joinedAt separatedBy tied attachedCount cursivePlan reversed reversedIn turned
     anchorsFor baseIndex markIndex marksGood markPlan nearest stopsAt crossWalk walkIn cleared finished joined settled settledUp walked
 worked-sums = refl

@@ -6,12 +6,10 @@ use Prim.Native.Nat.{ℕ, _+_, _-_, _≤_, _<_}
 use native.Mathlib.Omega.{arith}
 use lib.IntN.{ℤ, pos, _-ℤ_}
 use lib.ListN.{length}
-use lib.Signed.{mag}
 use borrow.Author.Tests.{le-leb, lt-leb}
 use Rattle.ints.specs.Saturating.{plus}
-use Rattle.ints.specs.Signed.{InBytes, signed, val}
-use Rattle.ints.proofs.Ints.{by-sign, sub-pos}
-use Rattle.ints.proofs.SignedLaws.{signed-high}
+use Rattle.ints.specs.Signed.{InBytes, val}
+use Rattle.ints.proofs.Ints.{sub-pos}
 use Rattle.slots.specs.Axis.{cross, main}
 use Rattle.slots.specs.Slot.{Slot}
 use Rattle.slots.specs.Line.{update}
@@ -20,7 +18,9 @@ use Rattle.slots.specs.declared.axis.Axis.{Axis}
 use Rattle.slots.specs.declared.axis.Direction.{Direction}
 use Rattle.slots.specs.declared.fields.ByteField.the-variants.{AttachType}
 use Rattle.slots.specs.declared.fields.Measure.the-variants.{Offset}
-use Rattle.slots.proofs.LineLaws.{update-twice}
+use Rattle.slots.specs.Parent.{cleared}
+use Rattle.slots.proofs.ChainLaws.{back-bits, near-fits}
+use Rattle.slots.proofs.LineLaws.{update-both}
 use Rattle.tables.specs.Anchor.{Spot}
 use Rattle.answers.specs.Outcome.{Effect}
 use Rattle.answers.specs.Said.{Range, break, Said, applied, declined, refused}
@@ -30,27 +30,10 @@ use Rattle.marks.specs.Plan.{Plan, stop, endless, hang, planSaid}
 -- the bits of a chain back to slot b stand for the distance, and it is a number of 16 bits
 module _ (idx b : ℕ) (back : b < idx) (near : idx - b ≤ 32768) where
   pub chain-back : val (4294967296 - (idx - b)) ≡ pos b -ℤ pos idx
-  chain-back = signed-high 4 (4294967296 - (idx - b)) b idx (omega arith) (omega arith) ∙ sym (sub-pos b idx)
+  chain-back = back-bits idx b back near ∙ sym (sub-pos b idx)
 
   pub chain-fits : InBytes 2 (val (4294967296 - (idx - b)))
-  chain-fits = rw (chain-back, sub-pos b idx) (by-sign (λ z. mag z < 32768) b idx (λ h. absurd (omega arith)) (λ h. omega arith))
-
--- a chain of 0
-pub chain-none : val 0 ≡ pos 0
-unfolding signed
-chain-none = refl
-
-pub none-fits : InBytes 2 (val 0)
-unfolding signed
-none-fits = omega arith
-
--- four changes of one slot are one
-four : (i : ℕ) (f g h k : Slot → Slot) (ss : List Slot) → i < length ss
-    → update i k (update i h (update i g (update i f ss))) ≡ update i (λ s. k (h (g (f s)))) ss
-four i f g h k ss l =
-    ap (λ (x : List Slot). update i k (update i h x)) (update-twice i f ss g l)
-    ∙ ap (update i k) (update-twice i (λ s. g (f s)) ss h l)
-    ∙ update-twice i (λ s. h (g (f s))) ss k l
+  chain-fits = rw (back-bits idx b back near) (near-fits b idx (omega arith) (omega arith))
 
 -- what code writes to the mark's slot, in its order, hangs it
 module _ (s u : ℕ) (d : Direction) (idx b : ℕ) (base mark : Spot) (walk : ℤ) (ss : List Slot) (l : idx < length ss) where
@@ -63,19 +46,20 @@ module _ (s u : ℕ) (d : Direction) (idx b : ℕ) (base mark : Spot) (walk : �
       let x′ : x ≡ between s u (main d) base mark = is-x ∙ ap (λ (a : Axis). between s u a base mark) is-along in
       let y′ : y ≡ between s u (cross d) base mark = is-y ∙ ap (λ (a : Axis). between s u a base mark) is-across in
       let z′ : z ≡ plus (between s u (cross d) base mark) walk = is-z ∙ ap (λ (v : ℤ). plus v walk) y′ in
-      e₄ ∙ ap (update idx (withByte AttachType 1)) (e₃ ∙ ap (update idx (withChain chain)) (e₂ ∙ ap (update idx (withMeasure Offset across z)) e₁))
-      ∙ rw (is-along, is-across, x′, z′, is-chain) (four idx _ _ _ _ ss l)
+      let two : ss₂ ≡ update idx (λ m. withMeasure Offset across z (withMeasure Offset along x m)) ss = update-both idx _ ss _ l e₁ e₂ in
+      let three : ss₃ ≡ update idx (λ m. withChain chain (withMeasure Offset across z (withMeasure Offset along x m))) ss = update-both idx _ ss _ l two e₃ in
+      update-both idx _ ss _ l three e₄ ∙ rw (is-along, is-across, x′, z′, is-chain)
 
 -- ---- what a plan comes to
-module _ (s u : ℕ) (d : Direction) (idx : ℕ) (plan : Plan) (ss : List Slot) where
-  pub effect-stop : (hs : List Range) → stop hs ≡ plan → Effect ss (planSaid idx plan) (planned s u d idx plan ss) (declined hs) ss
-  effect-stop hs e = rw (← e) (record { answer = refl; slots-are = refl })
+module _ (s u : ℕ) (d : Direction) (idx : ℕ) {plan : Plan} {ss : List Slot} where
+  pub effect-stop : {hs : List Range} → stop hs ≡ plan → Effect ss (planSaid idx plan) (planned s u d idx plan ss) (declined hs) ss
+  effect-stop e = rw (← e) (record { answer = refl; slots-are = refl })
 
   pub effect-endless : endless ≡ plan → Effect ss (planSaid idx plan) (planned s u d idx plan ss) (refused 7) ss
   effect-endless e = rw (← e) (record { answer = refl; slots-are = refl })
 
-  module _ (b : ℕ) (base mark : Spot) (walk : ℤ) (e : hang b base mark walk ≡ plan) (r : Said) (ss′ : List Slot) where
-    pub effect-far : 32768 < idx - b → r ≡ applied (idx + 1) (break b (idx + 1) ∷ []) false → ss′ ≡ update idx (withChain (pos 0)) ss
+  module _ {b : ℕ} {base mark : Spot} {walk : ℤ} (e : hang b base mark walk ≡ plan) {r : Said} {ss′ : List Slot} where
+    pub effect-far : 32768 < idx - b → r ≡ applied (idx + 1) (break b (idx + 1) ∷ []) false → ss′ ≡ cleared ss idx
         → Effect ss (planSaid idx plan) (planned s u d idx plan ss) r ss′
     effect-far h is-r is-ss = rw (← e, lt-leb (idx - b) 32768 h) (record { answer = is-r; slots-are = is-ss })
 

@@ -76,18 +76,18 @@ module _ (t : List ℕ) where
             e ∙ ap (coverageGoodAt t) read-b ∙ sym (both-good ∙ ap (λ (x : Bool). x && coverageGoodAt t (natAt 2 t 4)) h)
 
 -- ---- the component for a mark, by the tests in order: i and j are the ligature's id and the mark's, c is the mark's component
-module _ (n : ℕ) (mark lig : Slot) (some : 0 < n) (i : ℕ) (is-i : i ≡ lig .ligatureId) where
+module _ (n : ℕ) (mark lig : Slot) (some : 0 < n) {i : ℕ} (is-i : i ≡ lig .ligatureId) where
   last-in : n - 1 < n
   last-in = omega arith
 
   pub component-none : i ≡ 0 → (n - 1 ≡ componentIndex n mark lig) × (n - 1 < n)
   component-none h = (rw (← is-i, eq-eqb i 0 h), last-in)
 
-  module _ (there : i ≡ 0 → ⊥) (j : ℕ) (is-j : j ≡ mark .ligatureId) where
+  module _ (there : i ≡ 0 → ⊥) {j : ℕ} (is-j : j ≡ mark .ligatureId) where
     pub component-other : (i ≡ j → ⊥) → (n - 1 ≡ componentIndex n mark lig) × (n - 1 < n)
     component-other h = (rw (← is-i, ← is-j, ne-eqb i 0 there, ne-eqb i j h), last-in)
 
-    module _ (same : i ≡ j) (c : ℕ) (is-c : c ≡ mark .component) where
+    module _ (same : i ≡ j) {c : ℕ} (is-c : c ≡ mark .component) where
       pub component-zero : c ≡ 0 → (n - 1 ≡ componentIndex n mark lig) × (n - 1 < n)
       component-zero h = (rw (← is-i, ← is-j, ← is-c, ne-eqb i 0 there, eq-eqb i j same, h), last-in)
 

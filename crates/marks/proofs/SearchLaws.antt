@@ -25,20 +25,20 @@ module _ (s : Slot) (u : Bool) (is-u : u ≡ flagOf Multiplied s) where
   first-single h = rw (← is-u, h)
 
 -- ---- does slot s go on what slot p is part of?
-module _ (p s : Slot) (m : Bool) (is-m : m ≡ flagOf Mark p) where
+module _ (p s : Slot) {m : Bool} (is-m : m ≡ flagOf Mark p) where
   pub goes-mark : m ≡ true → false ≡ goesOn p s
   goes-mark h = rw (← is-m, h)
 
-  module _ (no-mark : m ≡ false) (u : Bool) (is-u : u ≡ flagOf Multiplied p) where
+  module _ (no-mark : m ≡ false) {u : Bool} (is-u : u ≡ flagOf Multiplied p) where
     pub goes-single : u ≡ false → false ≡ goesOn p s
     goes-single h = rw (← is-m, no-mark, ← is-u, h)
 
-    module _ (multiplied : u ≡ true) (i j : ℕ) (is-i : i ≡ s .ligatureId) (is-j : j ≡ p .ligatureId) where
+    module _ (multiplied : u ≡ true) {i j : ℕ} (is-i : i ≡ s .ligatureId) (is-j : j ≡ p .ligatureId) where
       pub goes-other : (i ≡ j → ⊥) → false ≡ goesOn p s
       goes-other h = rw (← is-m, no-mark, ← is-u, multiplied, ← is-i, ← is-j, ne-eqb i j h)
 
-      pub goes-next : i ≡ j → (k l : ℕ) → k ≡ s .component → l ≡ p .component → eqb k (l + 1) ≡ goesOn p s
-      goes-next h k l is-k is-l = rw (← is-m, no-mark, ← is-u, multiplied, ← is-i, ← is-j, eq-eqb i j h, ← is-k, ← is-l)
+      pub goes-next : i ≡ j → {k l : ℕ} → k ≡ s .component → l ≡ p .component → eqb k (l + 1) ≡ goesOn p s
+      goes-next h is-k is-l = rw (← is-m, no-mark, ← is-u, multiplied, ← is-i, ← is-j, eq-eqb i j h, ← is-k, ← is-l)
 
 -- ---- may a mark attach to slot i?
 module _ (kind : Kind) (ss : List Slot) (i : ℕ) (f : Bool) (is-f : f ≡ isFirst (slot ss i)) where

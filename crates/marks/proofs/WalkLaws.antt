@@ -5,10 +5,8 @@ use mathlib.Core.List.{List}
 use mathlib.Core.Option.{some, none}
 use Prim.Native.Nat.{ℕ, zero, suc, _-_, _≤_, _<_}
 use native.Mathlib.Omega.{arith}
-use lib.Dec.{ltb}
-use lib.IntN.{ℤ, pos, negsuc, _+ℤ_}
+use lib.IntN.{ℤ}
 use lib.ListN.{length}
-use borrow.Author.Tests.{ltb-true}
 use Rattle.ints.specs.Choice.{if_then_else_}
 use Rattle.ints.specs.Saturating.{plus}
 use Rattle.counts.specs.Steps.{steps}
@@ -16,10 +14,11 @@ use Rattle.counts.proofs.StepsLaws.{never-done}
 use Rattle.slots.specs.Slot.{Slot}
 use Rattle.slots.specs.Line.{slot}
 use Rattle.slots.specs.Fields.{cursiveBit, offset}
-use Rattle.slots.specs.Parent.{byParent, parent, parentBy, placed}
+use Rattle.slots.specs.Parent.{byParent, parent}
 use Rattle.slots.specs.declared.axis.Axis.{Axis}
 use Rattle.slots.specs.declared.parent.Parent.{Parent}
 use Rattle.slots.specs.declared.parent.Parent.the-variants.{None, Outside, At}
+use Rattle.slots.proofs.ParentLaws.{parent-in-line}
 use Rattle.marks.specs.Walk.{climb, crossWalk, endsAt, NeverEnds, next, up, walkIn}
 
 -- ---- where the walk goes on: t is the type of slot i
@@ -31,25 +30,11 @@ module _ (ss : List Slot) (i t : ℕ) (is : t ≡ slot ss i .attachType) where
   climb-other h = rw (← is, h)
 
 -- it stays in the line
-placed-in : (n j : ℕ) (z : ℤ) → placed n z ≡ At j → j < n
-placed-in n j (negsuc m) e = let z : _≡_ {A = ℕ} 0 1 = cc in absurd (omega arith)
-placed-in n j (pos m) e = go (ltb m n) refl e
-  where
-    go : (b : Bool) → ltb m n ≡ b → (if b then At m else Outside) ≡ At j → j < n
-    go true h e = let same : m ≡ j = cc in omega (arith, ltb-true m n h)
-    go false h e = let z : _≡_ {A = ℕ} 0 1 = cc in absurd (omega arith)
-
-parentBy-in : (n i j : ℕ) (z : ℤ) → parentBy n i z ≡ At j → j < n
-parentBy-in n i j (pos zero) e = let z : _≡_ {A = ℕ} 0 1 = cc in absurd (omega arith)
-parentBy-in n i j (pos (suc c)) e = placed-in n j (pos i +ℤ pos (suc c)) e
-parentBy-in n i j (negsuc c) e = placed-in n j (pos i +ℤ negsuc c) e
-
 pub climb-in : (ss : List Slot) (i j : ℕ) → climb ss i ≡ At j → j < length ss
-unfolding parent
 climb-in ss i j e = go (cursiveBit (slot ss i .attachType)) e
   where
-    go : (b : Bool) → (if b then parentBy (length ss) i (slot ss i .chain) else None) ≡ At j → j < length ss
-    go true h = parentBy-in (length ss) i j (slot ss i .chain) h
+    go : (b : Bool) → (if b then parent ss i else None) ≡ At j → j < length ss
+    go true h = parent-in-line ss i j h
     go false h = let z : _≡_ {A = ℕ} 0 1 = cc in absurd (omega arith)
 
 -- ---- the walk by the tests that are left: all of them; n, after one that climbs to p; and none

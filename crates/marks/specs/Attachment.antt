@@ -8,7 +8,8 @@ use Rattle.ints.specs.Scale.{scaled}
 use Rattle.slots.specs.Axis.{cross, main}
 use Rattle.slots.specs.Slot.{Slot}
 use Rattle.slots.specs.Line.{update}
-use Rattle.slots.specs.Fields.{attached, withChain, withMeasure}
+use Rattle.slots.specs.Fields.{attached, withMeasure}
+use Rattle.slots.specs.Parent.{cleared}
 use Rattle.slots.specs.declared.axis.Axis.{Axis}
 use Rattle.slots.specs.declared.axis.Direction.{Direction}
 use Rattle.slots.specs.declared.fields.Measure.the-variants.{Offset}
@@ -30,4 +31,4 @@ abbrev pub planned : ℕ → ℕ → Direction → ℕ → Plan → List Slot �
 planned s u d idx (stop hazards) ss = ss
 planned s u d idx endless ss = ss
 planned s u d idx (hang b base mark walk) ss =
-    if fits idx b then update idx (hung s u d idx b base mark walk) ss else update idx (withChain (pos 0)) ss
+    if fits idx b then update idx (hung s u d idx b base mark walk) ss else cleared ss idx

@@ -14,32 +14,27 @@ use Rattle.pair.specs.PairPos.{format1, format2}
 use Rattle.pair.specs.Plan.{Plan, adjust, stop}
 use Rattle.pair.specs.Adjustment.{eitherWorked, firstRecord, hasSecond, secondRecord, pairSaid, planned, planSaid}
 
--- ---- two records and their formats, by other names
-module _ (s u : ℕ) (d : Direction) (r₁ q₁ r₂ q₂ : List ℕ) (f₁ g₁ f₂ g₂ : ℕ) (a₁ : r₁ ≡ q₁) (a₂ : r₂ ≡ q₂) (b₁ : f₁ ≡ g₁) (b₂ : f₂ ≡ g₂) where
-  same-slots : (i j : ℕ) (ss mid end : List Slot) → mid ≡ update i (valued s u d r₁ f₁) ss → end ≡ update j (valued s u d r₂ f₂) mid
-      → end ≡ update j (valued s u d q₂ g₂) (update i (valued s u d q₁ g₁) ss)
-  same-slots i j ss mid end p q = cc
+-- ---- two records and their formats, by other names: what they make of the line, and whether either worked
+both-same : (s u : ℕ) (d : Direction) (r₁ q₁ r₂ q₂ : List ℕ) (f₁ g₁ f₂ g₂ : ℕ) → r₁ ≡ q₁ → r₂ ≡ q₂ → f₁ ≡ g₁ → f₂ ≡ g₂
+    → (i j : ℕ) (ss mid end : List Slot) (w₁ w₂ : Bool) → mid ≡ update i (valued s u d r₁ f₁) ss → end ≡ update j (valued s u d r₂ f₂) mid
+    → w₁ ≡ worked d r₁ f₁ → w₂ ≡ worked d r₂ f₂
+    → (end ≡ update j (valued s u d q₂ g₂) (update i (valued s u d q₁ g₁) ss)) × (w₁ || w₂ ≡ worked d q₁ g₁ || worked d q₂ g₂)
+both-same s u d r₁ q₁ r₂ q₂ f₁ g₁ f₂ g₂ a₁ a₂ b₁ b₂ i j ss mid end w₁ w₂ p q v w = (cc, cc)
 
-  same-works : (w₁ w₂ : Bool) → w₁ ≡ worked d r₁ f₁ → w₂ ≡ worked d r₂ f₂ → w₁ || w₂ ≡ worked d q₁ g₁ || worked d q₂ g₂
-  same-works w₁ w₂ p q = cc
+-- the two records, one after the other: f₁ and f₂ are the formats as code reads them, r₁ and r₂ the records, k the length of the first
+pub both-applied : (s u : ℕ) (d : Direction) (t table : List ℕ) (at i j : ℕ) (ss : List Slot) {f₁ f₂ k : ℕ} {r₁ r₂ : List ℕ} → f₁ ≡ format1 t → f₂ ≡ format2 t
+    → k ≡ recordLength f₁ → r₁ ≡ recordAt table at f₁ → r₂ ≡ recordAt table (at + k) f₂ → {mid end : List Slot} {w₁ w₂ : Bool}
+    → (mid ≡ update i (valued s u d r₁ f₁) ss) × (w₁ ≡ worked d r₁ f₁) → (end ≡ update j (valued s u d r₂ f₂) mid) × (w₂ ≡ worked d r₂ f₂)
+    → (end ≡ planned s u d t i (adjust table at j) ss) × (w₁ || w₂ ≡ eitherWorked d t table at)
+both-applied s u d t table at i j ss {f₁} {f₂} {k} {r₁} {r₂} e₁ e₂ len first second {mid} {end} {w₁} {w₂} p q =
+    both-same s u d r₁ (firstRecord t table at) r₂ (secondRecord t table at) f₁ (format1 t) f₂ (format2 t) first-is second-is e₁ e₂ i j ss mid end w₁ w₂
+    (p .0) (q .0) (p .1) (q .1)
+  where
+    first-is : r₁ ≡ firstRecord t table at
+    first-is = first ∙ ap (recordAt table at) e₁
 
--- ---- the two records, one after the other: f₁ and f₂ are the formats as code reads them, r₁ and r₂ the records, k the length of the first
-module _ (s u : ℕ) (d : Direction) (t table : List ℕ) (at f₁ f₂ k : ℕ) (r₁ r₂ : List ℕ) (e₁ : f₁ ≡ format1 t) (e₂ : f₂ ≡ format2 t) (len : k ≡ recordLength f₁)
-    (first : r₁ ≡ recordAt table at f₁) (second : r₂ ≡ recordAt table (at + k) f₂) where
-  first-is : r₁ ≡ firstRecord t table at
-  first-is = first ∙ ap (recordAt table at) e₁
-
-  second-is : r₂ ≡ secondRecord t table at
-  second-is = second ∙ ap (λ (n : ℕ). recordAt table (at + n) f₂) (len ∙ ap recordLength e₁) ∙ ap (recordAt table (at + recordLength (format1 t))) e₂
-
-  pub both-applied : (i j : ℕ) (ss mid end : List Slot) → mid ≡ update i (valued s u d r₁ f₁) ss → end ≡ update j (valued s u d r₂ f₂) mid
-      → end ≡ planned s u d t i (adjust table at j) ss
-  both-applied i j ss mid end p q =
-      same-slots s u d r₁ (firstRecord t table at) r₂ (secondRecord t table at) f₁ (format1 t) f₂ (format2 t) first-is second-is e₁ e₂ i j ss mid end p q
-
-  pub either-works : (w₁ w₂ : Bool) → w₁ ≡ worked d r₁ f₁ → w₂ ≡ worked d r₂ f₂ → w₁ || w₂ ≡ eitherWorked d t table at
-  either-works w₁ w₂ p q =
-      same-works s u d r₁ (firstRecord t table at) r₂ (secondRecord t table at) f₁ (format1 t) f₂ (format2 t) first-is second-is e₁ e₂ w₁ w₂ p q
+    second-is : r₂ ≡ secondRecord t table at
+    second-is = second ∙ ap (λ (n : ℕ). recordAt table (at + n) f₂) (len ∙ ap recordLength e₁) ∙ ap (recordAt table (at + recordLength (format1 t))) e₂
 
 -- ---- what a plan leaves
 module _ (s u : ℕ) (d : Direction) (t : List ℕ) (idx : ℕ) (ss : List Slot) (plan : Plan) where

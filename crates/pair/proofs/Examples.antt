@@ -13,6 +13,7 @@ use Rattle.slots.specs.Axis.{directionOf}
 use Rattle.slots.specs.Slot.{Slot, noSlot}
 use Rattle.slots.specs.Fields.{moved, withGlyph}
 use Rattle.slots.specs.Line.{update}
+use Rattle.tables.specs.Header.{headerGood}
 use Rattle.tables.specs.Spans.{ascends, firstHolding, spanAt, spansFrom}
 use Rattle.values.specs.Format.{setBelow}
 use Rattle.values.specs.Touch.{touches}
@@ -20,7 +21,7 @@ use Rattle.values.specs.Value.{fieldsWork, valued, withFields, worked}
 use Rattle.answers.specs.Said.{Said, applied, break, concat, declined}
 use Rattle.answers.specs.declared.Neighbour.{Neighbour}
 use Rattle.answers.specs.declared.Neighbour.the-variants.{At, Missing}
-use Rattle.pair.specs.PairPos.{classesGood, headerGood, pairGood}
+use Rattle.pair.specs.PairPos.{classesGood, pairGood}
 use Rattle.pair.specs.PairSet.{probeIn}
 use Rattle.pair.specs.Plan.{planOf}
 use Rattle.pair.specs.Adjustment.{planned, planSaid}

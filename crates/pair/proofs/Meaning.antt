@@ -1,30 +1,21 @@
 -- What the probe means: in a pair set that is whole and ascends, by halves one finds what the plain reading finds. Assumes nothing.
 use mathlib.Core.Path.{_≡_, refl, sym, ap, subst, _∙_}
-use mathlib.Core.Logic.{_⊎_, inl, inr, ⊎-elim}
+use mathlib.Core.Logic.{⊎-elim}
 use mathlib.Core.Bool.{true}
 use mathlib.Core.List.{List}
 use mathlib.Core.Option.{Option, some, none}
 use Prim.Native.Nat.{ℕ, zero, suc, _+_, _*_, _≤_, _<_}
-use native.Mathlib.Decide.{decLe}
-use native.Mathlib.Nat.{add-zero, eq-or-lt-of-le, lt-of-not-le}
+use native.Mathlib.Nat.{add-zero, eq-or-lt-of-le}
 use native.Mathlib.Omega.{arith}
 use lib.Dec.{leb}
 use lib.ListN.{length}
 use borrow.Author.Tests.{eq-eqb, leb-true, ne-eqb}
 use Rattle.ints.specs.BigEndian.{natAt}
-use Rattle.tables.proofs.SpansLaws.{and-right, row-in}
+use Rattle.tables.proofs.SpansLaws.{and-right, row-in, side}
 use Rattle.pair.specs.PairSet.{Ascending, firstWith, foundAt, middle, plain, probe, probeIn, recordAt, secondGlyph, whole}
 use Rattle.pair.specs.declared.pair_set.Probe.{Probe}
 use Rattle.pair.specs.declared.pair_set.Probe.the-variants.{Found, Nothing}
 use Rattle.pair.proofs.PairSetLaws.{probe-down, probe-hit, probe-over, probe-up}
-
--- one number is below another, or not
-side : (a b : ℕ) → (a < b) ⊎ (b ≤ a)
-side a b = go (decLe b a)
-  where
-    go : Dec (b ≤ a) → (a < b) ⊎ (b ≤ a)
-    go (yes h) = inr h
-    go (no h) = inl (lt-of-not-le h)
 
 -- the probe's answer to what the plain reading finds, and back
 abbrev pub told : Option ℕ → Probe

@@ -4,37 +4,22 @@ use mathlib.Core.Bool.{true, false, _&&_}
 use mathlib.Core.List.{List}
 use Prim.Native.Nat.{ℕ, _≤_, _<_}
 use native.Mathlib.Omega.{arith}
-use lib.Dec.{eqb, leb}
+use lib.Dec.{leb}
 use lib.ListN.{length}
-use borrow.Author.Tests.{eq-eqb, eqb-true, le-leb, leb-true, lt-leb, ne-eqb}
+use borrow.Author.Tests.{eq-eqb, le-leb, leb-true, lt-leb, ne-eqb}
 use Rattle.ints.specs.BigEndian.{natAt}
 use Rattle.tables.specs.ClassDef.{classGoodAt}
 use Rattle.tables.specs.Coverage.{coverageGoodAt}
+use Rattle.tables.specs.Header.{headerGood, posFormat}
+use Rattle.tables.proofs.HeaderLaws.{Header, header}
 use Rattle.tables.proofs.SpansLaws.{and-left, and-right}
-use Rattle.pair.specs.PairPos.{classesGood, format1, format2, headerGood, pairGood, posFormat}
+use Rattle.pair.specs.PairPos.{classesGood, format1, format2, pairGood}
 
 -- ---- what a good subtable has
--- a header that is whole: 10 bytes, and 16 where the format isn't 1, which then is 2
-pub record Header (t : List ℕ) : Type 0 where
-  pub whole : 10 ≤ length t
-  pub known : (posFormat t ≡ 1 → ⊥) → posFormat t ≡ 2
-  pub whole2 : (posFormat t ≡ 1 → ⊥) → 16 ≤ length t
-
-pub header : (t : List ℕ) → headerGood t ≡ true → Header t
-unfolding headerGood
-header t e = record {
-  whole = leb-true 10 (length t) (and-left _ _ e);
-  known = λ n. eqb-true (posFormat t) 2 (and-left _ _ (second n));
-  whole2 = λ n. leb-true 16 (length t) (and-right (eqb (posFormat t) 2) _ (second n));
-}
-  where
-    second : (posFormat t ≡ 1 → ⊥) → eqb (posFormat t) 2 && leb 16 (length t) ≡ true
-    second n = simp (ne-eqb (posFormat t) 1 n) at (and-right (leb 10 (length t)) _ e)
-
 -- a good subtable: not too long, its header whole, its value formats known, its coverage good, and its class lists where the format is 2
 pub record Good (t : List ℕ) : Type 0 where
   pub short : length t ≤ 65536
-  pub head : Header t
+  pub head : Header 10 16 t
   pub known1 : format1 t < 256
   pub known2 : format2 t < 256
   pub covers : coverageGoodAt t (natAt 2 t 2) ≡ true
@@ -49,13 +34,13 @@ pub good : (t : List ℕ) → pairGood t ≡ true → Good t
 unfolding pairGood
 good t e =
     let e1 = and-right (leb (length t) 65536) _ e in
-    let e2 = and-right (headerGood t) _ e1 in
+    let e2 = and-right (headerGood 10 16 t) _ e1 in
     let e3 = and-right (leb (format1 t) 255) _ e2 in
     let e4 = and-right (leb (format2 t) 255) _ e3 in
     let lists = lists-good t (and-right (coverageGoodAt t (natAt 2 t 2)) _ e4) in
     record {
       short = leb-true (length t) 65536 (and-left _ _ e);
-      head = header t (and-left _ _ e1);
+      head = header 10 16 t (and-left _ _ e1);
       known1 = omega (arith, leb-true (format1 t) 255 (and-left _ _ e2));
       known2 = omega (arith, leb-true (format2 t) 255 (and-left _ _ e3));
       covers = and-left _ _ e4;
@@ -63,24 +48,7 @@ good t e =
       classes2 = λ n. and-right (classGoodAt t (natAt 2 t 8)) _ (lists n);
     }
 
--- ---- the check of the header: cut, format 1, format 2, a format that is unknown
 module _ (t : List ℕ) where
-  pub header-cut : length t < 10 → false ≡ headerGood t
-  unfolding headerGood
-  header-cut h = simp (lt-leb 10 (length t) h)
-
-  pub header-1 : 10 ≤ length t → posFormat t ≡ 1 → true ≡ headerGood t
-  unfolding headerGood
-  header-1 h e = simp (le-leb 10 (length t) h, eq-eqb (posFormat t) 1 e)
-
-  pub header-2 : 10 ≤ length t → posFormat t ≡ 2 → leb 16 (length t) ≡ headerGood t
-  unfolding headerGood
-  header-2 h e = simp (le-leb 10 (length t) h, e)
-
-  pub header-unknown : 10 ≤ length t → (posFormat t ≡ 1 → ⊥) → (posFormat t ≡ 2 → ⊥) → false ≡ headerGood t
-  unfolding headerGood
-  header-unknown h n m = simp (le-leb 10 (length t) h, ne-eqb (posFormat t) 1 n, ne-eqb (posFormat t) 2 m)
-
   -- ---- the check of the class lists: none in format 1, both good, the first bad
   pub classes-none : posFormat t ≡ 1 → true ≡ classesGood t
   unfolding classesGood
@@ -99,19 +67,19 @@ module _ (t : List ℕ) where
   unfolding pairGood
   too-long h = simp (lt-leb (length t) 65536 h)
 
-  pub bad-header : length t ≤ 65536 → false ≡ headerGood t → false ≡ pairGood t
+  pub bad-header : length t ≤ 65536 → false ≡ headerGood 10 16 t → false ≡ pairGood t
   unfolding pairGood
   bad-header h e = simp (le-leb (length t) 65536 h, ← e)
 
-  pub unknown-first : length t ≤ 65536 → true ≡ headerGood t → 255 < format1 t → false ≡ pairGood t
+  pub unknown-first : length t ≤ 65536 → true ≡ headerGood 10 16 t → 255 < format1 t → false ≡ pairGood t
   unfolding pairGood
   unknown-first h e f = simp (le-leb (length t) 65536 h, ← e, lt-leb (format1 t) 255 f)
 
-  pub unknown-second : length t ≤ 65536 → true ≡ headerGood t → format1 t ≤ 255 → 255 < format2 t → false ≡ pairGood t
+  pub unknown-second : length t ≤ 65536 → true ≡ headerGood 10 16 t → format1 t ≤ 255 → 255 < format2 t → false ≡ pairGood t
   unfolding pairGood
   unknown-second h e f g = simp (le-leb (length t) 65536 h, ← e, le-leb (format1 t) 255 f, lt-leb (format2 t) 255 g)
 
-  module _ (h : length t ≤ 65536) (e : true ≡ headerGood t) (f : format1 t ≤ 255) (g : format2 t ≤ 255) where
+  module _ (h : length t ≤ 65536) (e : true ≡ headerGood 10 16 t) (f : format1 t ≤ 255) (g : format2 t ≤ 255) where
     pub bad-coverage : false ≡ coverageGoodAt t (natAt 2 t 2) → false ≡ pairGood t
     unfolding pairGood
     bad-coverage c = simp (le-leb (length t) 65536 h, ← e, le-leb (format1 t) 255 f, le-leb (format2 t) 255 g, ← c)

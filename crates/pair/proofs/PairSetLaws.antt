@@ -60,7 +60,7 @@ module _ (set : List ℕ) (size g n lo hi : ℕ) where
           )
 
 -- the same of the whole answer, as the loop goes
-module _ (set : List ℕ) (size g lo hi : ℕ) (all : Probe) (l : Left set size g all lo hi) where
+module _ {set : List ℕ} {size g lo hi : ℕ} {all : Probe} (l : Left set size g all lo hi) where
   pub over : hi ≤ lo → all ≡ Nothing
   over h = l .same ∙ probe-over set size g (l .steps) lo hi h
 

@@ -12,6 +12,7 @@ use Rattle.ints.specs.BigEndian.{natAt}
 use Rattle.ints.specs.Choice.{if_then_else_}
 use Rattle.slots.specs.Slot.{Slot}
 use Rattle.slots.specs.Line.{slot}
+use Rattle.tables.specs.Header.{posFormat}
 use Rattle.tables.specs.ClassDef.{classAt}
 use Rattle.tables.specs.Part.{tableAt}
 use Rattle.tables.specs.declared.coverage.Covered.{Covered}
@@ -19,7 +20,7 @@ use Rattle.tables.specs.declared.coverage.Covered.the-variants.{At, Not}
 use Rattle.answers.specs.Said.{Range, concat}
 use Rattle.answers.specs.declared.Neighbour.{Neighbour}
 use Rattle.answers.specs.declared.Neighbour.the-variants.{At as Named, Missing}
-use Rattle.pair.specs.PairPos.{firstClasses, firstIndex, pairLength, pairSet, posFormat, secondClasses}
+use Rattle.pair.specs.PairPos.{firstClasses, firstIndex, pairLength, pairSet, secondClasses}
 use Rattle.pair.specs.PairSet.{probe}
 use Rattle.pair.specs.Plan.{Plan, adjust, fromClasses, fromCovered, fromNeighbour, fromProbe, fromSecond, fromSet, missed, planOf, stop}
 use Rattle.pair.specs.declared.pair_set.Probe.{Probe}

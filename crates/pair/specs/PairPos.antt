@@ -2,7 +2,7 @@
 --   format 1: uint16 posFormat, Offset16 coverageOffset, uint16 valueFormat1, valueFormat2, uint16 pairSetCount, Offset16 pairSetOffsets[pairSetCount]
 --   format 2: uint16 posFormat, Offset16 coverageOffset, uint16 valueFormat1, valueFormat2, Offset16 classDef1Offset, classDef2Offset, uint16 class1Count, class2Count,
 --     then for each first class a row of records, one for each second class, each of a value record by valueFormat1 and one by valueFormat2
-use mathlib.Core.Bool.{Bool, true, _&&_, _||_}
+use mathlib.Core.Bool.{Bool, true, _&&_}
 use mathlib.Core.List.{List}
 use Prim.Native.Nat.{ℕ, _+_, _*_}
 use lib.Dec.{eqb, leb}
@@ -11,33 +11,27 @@ use Rattle.ints.specs.BigEndian.{natAt}
 use Rattle.ints.specs.Choice.{if_then_else_}
 use Rattle.tables.specs.ClassDef.{classAt, classGoodAt}
 use Rattle.tables.specs.Coverage.{coverageAt, coverageGoodAt}
+use Rattle.tables.specs.Header.{headerGood, posFormat}
 use Rattle.tables.specs.Part.{childOf}
 use Rattle.tables.specs.declared.coverage.Covered.{Covered}
 use Rattle.values.specs.Format.{recordLength}
 
--- the fields of the header
-abbrev pub posFormat : List ℕ → ℕ
-posFormat t = natAt 2 t 0
-
+-- the two value formats
 abbrev pub format1 : List ℕ → ℕ
 format1 t = natAt 2 t 4
 
 abbrev pub format2 : List ℕ → ℕ
 format2 t = natAt 2 t 6
 
--- the header is whole and its format known: 10 bytes in format 1, 16 in format 2
-unfoldable pub headerGood : List ℕ → Bool
-headerGood t = leb 10 (length t) && (eqb (posFormat t) 1 || (eqb (posFormat t) 2 && leb 16 (length t)))
-
 -- the class lists of format 2 are good
 unfoldable pub classesGood : List ℕ → Bool
 classesGood t = if eqb (posFormat t) 1 then true else classGoodAt t (natAt 2 t 8) && classGoodAt t (natAt 2 t 10)
 
--- what refusal 6 asks of the subtable: not too long, header good, value formats known, coverage and class lists good
+-- what refusal 6 asks of the subtable: not too long, a header of 10 bytes in format 1 and 16 in format 2, value formats known, coverage and class lists good
 unfoldable pub pairGood : List ℕ → Bool
 pairGood t =
     leb (length t) 65536
-    && (headerGood t && (leb (format1 t) 255 && (leb (format2 t) 255 && (coverageGoodAt t (natAt 2 t 2) && classesGood t))))
+    && (headerGood 10 16 t && (leb (format1 t) 255 && (leb (format2 t) 255 && (coverageGoodAt t (natAt 2 t 2) && classesGood t))))
 
 -- the coverage index of a first glyph
 abbrev pub firstIndex : List ℕ → ℕ → Covered

@@ -7,12 +7,13 @@ use lib.ListN.{length}
 use Rattle.ints.specs.Choice.{if_then_else_}
 use Rattle.slots.specs.Slot.{Slot}
 use Rattle.slots.specs.Line.{slot}
+use Rattle.tables.specs.Header.{posFormat}
 use Rattle.tables.specs.declared.coverage.Covered.{Covered}
 use Rattle.tables.specs.declared.coverage.Covered.the-variants.{At, Not}
 use Rattle.answers.specs.Said.{Range, concat}
 use Rattle.answers.specs.declared.Neighbour.{Neighbour}
 use Rattle.answers.specs.declared.Neighbour.the-variants.{At as Named, Missing}
-use Rattle.pair.specs.PairPos.{classRecord, firstClass, firstClasses, firstIndex, pairLength, pairSet, posFormat, secondClass, secondClasses}
+use Rattle.pair.specs.PairPos.{classRecord, firstClass, firstClasses, firstIndex, pairLength, pairSet, secondClass, secondClasses}
 use Rattle.pair.specs.PairSet.{probe}
 use Rattle.pair.specs.declared.pair_set.Probe.{Probe}
 use Rattle.pair.specs.declared.pair_set.Probe.the-variants.{Found, Nothing, Cut}

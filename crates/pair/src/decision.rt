@@ -13,9 +13,10 @@ ghost use mathlib.Core.Path.{_≡_};
 ghost use Prim.Native.Nat.{_≤_, _<_};
 ghost use lib.ListN.{drop, length};
 ghost use Rattle.slots.specs.Line.{count, slots};
+ghost use Rattle.tables.specs.Header.{posFormat};
 ghost use Rattle.tables.specs.Part.{tableAt};
 ghost use Rattle.pair.specs.Codes.{After, meant, Sound};
-ghost use Rattle.pair.specs.PairPos.{pairGood, pairSet, posFormat};
+ghost use Rattle.pair.specs.PairPos.{pairGood, pairSet};
 ghost use Rattle.pair.specs.Plan.{fromClasses, fromNeighbour, fromProbe, fromSecond, fromSet, planOf};
 ghost use Rattle.pair.specs.ProbeSmall.{ProbeSmall};
 

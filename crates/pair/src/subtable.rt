@@ -1,31 +1,16 @@
 // The PairPos subtable.
 use ints::big_endian::read_u16;
 use tables::coverage::Covered;
+use tables::header::header_good;
 ghost use mathlib.Core.Bool.{true};
 ghost use mathlib.Core.Path.{_≡_};
 ghost use Prim.Native.Nat.{_≤_, _<_};
-ghost use Rattle.pair.specs.PairPos.{classesGood, firstIndex, headerGood, pairGood, pairLength};
-
-// The header is whole and its format known.
-fn header_good(t: &[u8]) -> bool
-    ensures { λ r. ⌜ r ≡ headerGood (now (t .entry)) ⌝ }
-{
-    if t.len() < 10 {
-        return false;
-    }
-    let format = read_u16(t, 0);
-    if format == 1 {
-        return true;
-    }
-    if format == 2 {
-        return 16 <= t.len();
-    }
-    false
-}
+ghost use Rattle.tables.specs.Header.{headerGood};
+ghost use Rattle.pair.specs.PairPos.{classesGood, firstIndex, pairGood, pairLength};
 
 // The class lists of format 2 are good.
 fn classes_good(t: &[u8]) -> bool
-    requires { ⌜ headerGood (now t) ≡ true ⌝ }
+    requires { ⌜ headerGood 10 16 (now t) ≡ true ⌝ }
     ensures { λ r. ⌜ r ≡ classesGood (now (t .entry)) ⌝ }
 {
     if read_u16(t, 0) == 1 {
@@ -44,7 +29,7 @@ pub fn is_good(t: &[u8]) -> bool
     if 65536 < t.len() {
         return false;
     }
-    if !header_good(t) {
+    if !header_good(t, 10, 16) {
         return false;
     }
     if 255 < read_u16(t, 4) {

@@ -14,12 +14,13 @@ use Rattle.slots.specs.Axis.{directionOf}
 use Rattle.slots.specs.Slot.{Slot, noSlot}
 use Rattle.slots.specs.Line.{update}
 use Rattle.slots.specs.Fields.{moved, withGlyph}
+use Rattle.tables.specs.Header.{headerGood}
 use Rattle.tables.specs.Spans.{ascends, firstHolding, spanAt, spansFrom}
 use Rattle.values.specs.Format.{setBelow}
 use Rattle.values.specs.Touch.{touches}
 use Rattle.values.specs.Value.{valued, withFields}
 use Rattle.answers.specs.Said.{Said, applied, declined}
-use Rattle.single.specs.SinglePos.{headerGood, placeFor, singleGood, singleSaid, singled}
+use Rattle.single.specs.SinglePos.{placeFor, singleGood, singleSaid, singled}
 
 -- format 1: x advance 20 for glyph 7
 abbrev one : List ℕ

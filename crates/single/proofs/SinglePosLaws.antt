@@ -5,51 +5,41 @@ use mathlib.Core.List.{List, []}
 use mathlib.Core.Option.{some, none}
 use Prim.Native.Nat.{ℕ, _+_, _≤_, _<_}
 use native.Mathlib.Omega.{arith}
-use lib.Dec.{eqb, leb}
+use lib.Dec.{leb}
 use lib.ListN.{length}
-use borrow.Author.Tests.{leb-true, ne-eqb}
+use borrow.Author.Tests.{leb-true}
 use Rattle.ints.specs.BigEndian.{natAt}
 use Rattle.slots.specs.Slot.{Slot}
 use Rattle.slots.specs.Line.{slot, update}
 use Rattle.slots.specs.declared.axis.Direction.{Direction}
 use Rattle.tables.specs.Coverage.{coverageAt, coverageGoodAt}
+use Rattle.tables.specs.Header.{headerGood}
 use Rattle.tables.specs.declared.coverage.Covered.{Covered}
+use Rattle.tables.proofs.HeaderLaws.{header}
 use Rattle.tables.proofs.SpansLaws.{and-left, and-right}
 use Rattle.values.specs.Format.{recordAt}
 use Rattle.values.specs.Value.{valued}
 use Rattle.answers.specs.Said.{applied, declined}
 use Rattle.answers.specs.Outcome.{Effect}
-use Rattle.single.specs.SinglePos.{headerGood, placeFor, recordPlace, singleGood, singleSaid, singled}
-
--- a header that is good has 6 bytes, and 8 where the format is not 1
-module _ (t : List ℕ) (good : headerGood t ≡ true) where
-  pub header-long : 6 ≤ length t
-  unfolding headerGood
-  header-long = leb-true 6 (length t) (and-left _ _ good)
-
-  pub header-longer : (natAt 2 t 0 ≡ 1 → ⊥) → 8 ≤ length t
-  unfolding headerGood
-  header-longer ne =
-      let e = simp (ne-eqb (natAt 2 t 0) 1 ne) at (and-right (leb 6 (length t)) _ good) in
-      leb-true 8 (length t) (and-right (eqb (natAt 2 t 0) 2) _ e)
+use Rattle.single.specs.SinglePos.{placeFor, recordPlace, singleGood, singleSaid, singled}
 
 -- a subtable that passed the check
 module _ (t : List ℕ) (good : singleGood t ≡ true) where
-  checked : headerGood t && (leb (natAt 2 t 4) 255 && coverageGoodAt t (natAt 2 t 2)) ≡ true
+  checked : headerGood 6 8 t && (leb (natAt 2 t 4) 255 && coverageGoodAt t (natAt 2 t 2)) ≡ true
   unfolding singleGood
   checked = and-right (leb (length t) 65536) _ good
 
   pub long : 6 ≤ length t
-  long = header-long t (and-left _ _ checked)
+  long = header 6 8 t (and-left _ _ checked) .whole
 
   pub longer : (natAt 2 t 0 ≡ 1 → ⊥) → 8 ≤ length t
-  longer = header-longer t (and-left _ _ checked)
+  longer = header 6 8 t (and-left _ _ checked) .whole2
 
   pub format-known : natAt 2 t 4 < 256
-  format-known = let h = leb-true (natAt 2 t 4) 255 (and-left _ _ (and-right (headerGood t) _ checked)) in omega arith
+  format-known = let h = leb-true (natAt 2 t 4) 255 (and-left _ _ (and-right (headerGood 6 8 t) _ checked)) in omega arith
 
   pub coverage-good : coverageGoodAt t (natAt 2 t 2) ≡ true
-  coverage-good = and-right (leb (natAt 2 t 4) 255) _ (and-right (headerGood t) _ checked)
+  coverage-good = and-right (leb (natAt 2 t 4) 255) _ (and-right (headerGood 6 8 t) _ checked)
 
 -- where a glyph's record is, by what the coverage at the offset `off` found
 pub place-by : (t : List ℕ) (g off : ℕ) (v : Covered) → off ≡ natAt 2 t 2 → v ≡ coverageAt t off g → recordPlace t v ≡ placeFor t g

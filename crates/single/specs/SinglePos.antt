@@ -1,7 +1,7 @@
 -- The SinglePos subtable (OpenType, GPOS). Assumes nothing.
 --   format 1: uint16 posFormat, Offset16 coverageOffset, uint16 valueFormat, then one ValueRecord for all covered glyphs
 --   format 2: uint16 posFormat, Offset16 coverageOffset, uint16 valueFormat, uint16 valueCount, then a ValueRecord for each coverage index
-use mathlib.Core.Bool.{Bool, false, _&&_, _||_}
+use mathlib.Core.Bool.{Bool, false, _&&_}
 use mathlib.Core.List.{List, []}
 use mathlib.Core.Option.{Option, some, none}
 use Prim.Native.Nat.{ℕ, _+_, _*_}
@@ -13,6 +13,7 @@ use Rattle.slots.specs.Slot.{Slot}
 use Rattle.slots.specs.Line.{slot, update}
 use Rattle.slots.specs.declared.axis.Direction.{Direction}
 use Rattle.tables.specs.Coverage.{coverageAt, coverageGoodAt}
+use Rattle.tables.specs.Header.{headerGood, posFormat}
 use Rattle.tables.specs.declared.coverage.Covered.{Covered}
 use Rattle.tables.specs.declared.coverage.Covered.the-variants.{At, Not}
 use Rattle.values.specs.Format.{recordAt, recordLength}
@@ -20,9 +21,6 @@ use Rattle.values.specs.Value.{valued}
 use Rattle.answers.specs.Said.{Said, applied, declined}
 
 -- the fields of the header
-abbrev pub posFormat : List ℕ → ℕ
-posFormat t = natAt 2 t 0
-
 abbrev pub coverageOffset : List ℕ → ℕ
 coverageOffset t = natAt 2 t 2
 
@@ -32,13 +30,9 @@ valueFormat t = natAt 2 t 4
 abbrev pub valueCount : List ℕ → ℕ
 valueCount t = natAt 2 t 6
 
--- the header is whole and its format known: 6 bytes in format 1, 8 in format 2
-unfoldable pub headerGood : List ℕ → Bool
-headerGood t = leb 6 (length t) && (eqb (posFormat t) 1 || (eqb (posFormat t) 2 && leb 8 (length t)))
-
--- what refusal 6 asks of the subtable: not too long, header good, value format known, coverage good
+-- what refusal 6 asks of the subtable: not too long, a header of 6 bytes in format 1 and 8 in format 2, value format known, coverage good
 unfoldable pub singleGood : List ℕ → Bool
-singleGood t = leb (length t) 65536 && (headerGood t && (leb (valueFormat t) 255 && coverageGoodAt t (coverageOffset t)))
+singleGood t = leb (length t) 65536 && (headerGood 6 8 t && (leb (valueFormat t) 255 && coverageGoodAt t (coverageOffset t)))
 
 -- where the value record of a coverage index is: none past the count
 abbrev pub recordPlace : List ℕ → Covered → Option ℕ

@@ -1,34 +1,18 @@
 // The SinglePos subtable: its check, and which record a glyph has.
 use ints::big_endian::read_u16;
 use tables::coverage::Covered;
+use tables::header::header_good;
 ghost use mathlib.Core.Bool.{true};
 ghost use mathlib.Core.Path.{_≡_};
 ghost use Prim.Native.Nat.{_<_};
 ghost use Rattle.tables.specs.declared.coverage.Covered.the-variants.{At};
-ghost use Rattle.single.specs.SinglePos.{headerGood, placeFor, recordPlace, singleGood};
+ghost use Rattle.single.specs.SinglePos.{placeFor, recordPlace, singleGood};
 ghost use Rattle.single.specs.Place.{placeOf, PlaceSmall};
 
 // Where a glyph's value record is.
 pub enum Place {
     At(usize),
     Nowhere,
-}
-
-// The header is whole and its format known: 6 bytes in format 1, 8 in format 2.
-fn header_good(t: &[u8]) -> bool
-    ensures { λ r. ⌜ r ≡ headerGood (now (t .entry)) ⌝ }
-{
-    if t.len() < 6 {
-        return false;
-    }
-    let format = read_u16(t, 0);
-    if format == 1 {
-        return true;
-    }
-    if format == 2 {
-        return 8 <= t.len();
-    }
-    false
 }
 
 // The check: not too long, header good, value format known, coverage good.
@@ -38,7 +22,7 @@ pub fn is_good(t: &[u8]) -> bool
     if 65536 < t.len() {
         return false;
     }
-    if !header_good(t) {
+    if !header_good(t, 6, 8) {
         return false;
     }
     if 255 < read_u16(t, 4) {

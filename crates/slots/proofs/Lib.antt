@@ -4,6 +4,7 @@ pub mod LineLaws
 pub mod FieldLaws
 pub mod ParentLaws
 pub mod RangeLaws
+pub mod ChainLaws
 pub mod SearchLaws
 pub mod TurnLaws
 pub mod Examples

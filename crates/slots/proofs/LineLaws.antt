@@ -157,9 +157,18 @@ module _ (i : ℕ) (f : Slot → Slot) (ss : List Slot) where
   length-update = length-set ss i (f (slot ss i))
 
   -- two changes of one slot are one
-  pub update-twice : (g : Slot → Slot) → i < length ss → update i g (update i f ss) ≡ update i (λ s. g (f s)) ss
+  update-twice : (g : Slot → Slot) → i < length ss → update i g (update i f ss) ≡ update i (λ s. g (f s)) ss
   unfolding update
   update-twice g h = rw (getD-set-same ss i (f (slot ss i)) noSlot h, set-set)
+
+  -- one after the other, as code makes them
+  pub update-both : (g : Slot → Slot) {ss₁ ss₂ : List Slot} → i < length ss → ss₁ ≡ update i f ss → ss₂ ≡ update i g ss₁ → ss₂ ≡ update i (λ s. g (f s)) ss
+  update-both g lt first second = second ∙ ap (update i g) first ∙ update-twice g lt
+
+  -- two changes that agree on the slot are the same
+  pub update-as : (g : Slot → Slot) → f (slot ss i) ≡ g (slot ss i) → update i f ss ≡ update i g ss
+  unfolding update
+  update-as g e = ap (set ss i) e
 
 -- ---- a part of whole slots
 slotsN-drop : (j n : ℕ) (l : List ℕ) → slotsN n (drop (j * 24) l) ≡ drop j (slotsN (j + n) l)

@@ -6,7 +6,8 @@ use lib.IntN.{ℤ, pos, negsuc, _+ℤ_}
 use lib.ListN.{length}
 use Rattle.ints.specs.Choice.{if_then_else_}
 use Rattle.slots.specs.Slot.{Slot}
-use Rattle.slots.specs.Line.{slot}
+use Rattle.slots.specs.Line.{slot, update}
+use Rattle.slots.specs.Fields.{withChain}
 use Rattle.slots.specs.declared.parent.Parent.{Parent}
 use Rattle.slots.specs.declared.parent.Parent.the-variants.{None, Outside, At}
 
@@ -24,6 +25,10 @@ parentBy n i (negsuc c) = placed n (pos i +ℤ negsuc c)
 -- what slot i hangs on: nothing, something outside the line, or the slot at a place of the line
 unfoldable pub parent : List Slot → ℕ → Parent
 parent ss i = parentBy (length ss) i (slot ss i .chain)
+
+-- the line with slot i unattached
+unfoldable pub cleared : List Slot → ℕ → List Slot
+cleared ss i = update i (withChain (pos 0)) ss
 
 -- one thing for each kind of parent
 abbrev pub byParent : {A : Type 0} → Parent → A → A → (ℕ → A) → A

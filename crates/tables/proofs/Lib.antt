@@ -1,5 +1,6 @@
 pub mod PartLaws
 pub mod SpansLaws
+pub mod HeaderLaws
 pub mod CoverageLaws
 pub mod ClassDefLaws
 pub mod AnchorRowsLaws

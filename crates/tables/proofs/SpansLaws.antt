@@ -23,6 +23,14 @@ next-row d k = ap (λ (m : ℕ). d * m) (add-one k) ∙ mul-suc d k
 pub row-in : (d k n : ℕ) → k < n → d * k + d ≤ d * n
 row-in d k n h = subst (λ (m : ℕ). m ≤ d * n) (mul-suc d k) (mul-le-mul-left d h)
 
+-- one number is below another, or not
+pub side : (i m : ℕ) → (i < m) ⊎ (m ≤ i)
+side i m = go (decLe m i)
+  where
+    go : Dec (m ≤ i) → (i < m) ⊎ (m ≤ i)
+    go (yes h) = inr h
+    go (no h) = inl (lt-of-not-le h)
+
 -- ---- two tests that both hold
 pub and-left : (a b : Bool) → a && b ≡ true → a ≡ true
 and-left true b e = refl
@@ -194,10 +202,3 @@ halves-find f n g r up (nowhere {lo} {hi} b h) =
     sym (first-none f g n 0 (λ i p q.
     ⊎-elim (λ (w : i < hi). holds-past (f i) g (b .below i (omega arith))) (λ (w : hi ≤ i). holds-under (f i) g (b .above i w (omega arith)))
     (side i hi)))
-  where
-    side : (i m : ℕ) → (i < m) ⊎ (m ≤ i)
-    side i m = go (decLe m i)
-      where
-        go : Dec (m ≤ i) → (i < m) ⊎ (m ≤ i)
-        go (yes h) = inr h
-        go (no h) = inl (lt-of-not-le h)

@@ -1,3 +1,4 @@
+pub mod Header
 pub mod Part
 pub mod Spans
 pub mod Coverage

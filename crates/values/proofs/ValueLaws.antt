@@ -20,7 +20,7 @@ use Rattle.slots.specs.Fields.{measure, withMeasure}
 use Rattle.slots.specs.declared.axis.Axis.{Axis}
 use Rattle.slots.specs.declared.axis.Direction.{Direction}
 use Rattle.slots.specs.declared.fields.Measure.{Measure}
-use Rattle.slots.proofs.LineLaws.{update-twice}
+use Rattle.slots.proofs.LineLaws.{update-both}
 use Rattle.values.specs.Codes.{touchBy}
 use Rattle.values.specs.Format.{bitOf, fieldValue, recordLength}
 use Rattle.values.specs.Touch.{applies, skipped, touched, touches}
@@ -122,7 +122,7 @@ module _ (s u : ℕ) (d : Direction) (r : List ℕ) (f i : ℕ) (ss : List Slot)
   pub more-fields : (n : ℕ) (now next : List Slot) (w x y : Bool) → i < length ss → Fields n now w → OneField s u d r f n i now next x → y ≡ w || x → Fields (n + 1) next y
   unfolding withFields fieldsWork
   more-fields n now next w x y h e g o = rw add-one (
-    g .0 ∙ ap (update i (withField s u d r f n)) (e .0) ∙ update-twice i (withFields s u d r f n) ss (withField s u d r f n) h,
+    update-both i (withFields s u d r f n) ss (withField s u d r f n) h (e .0) (g .0),
     o ∙ rw (e .1, g .1),
   )
 

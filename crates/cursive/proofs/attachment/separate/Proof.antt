@@ -4,7 +4,7 @@ use denote.Ref.{now}
 use Rattle.slots.specs.Line.{slots}
 use Rattle.slots.proofs.LineLaws.{length-slots}
 use Rattle.cursive.proofs.AttachmentLaws.{separates, stays}
-use Rattle.cursive.proofs.ChainsLaws.{zero-fits}
+use Rattle.slots.proofs.ChainLaws.{zero-fits}
 use borrow.Author.Needs.{needs}
 use Rattle.cursive.proofs.attachment.separate.Statement.{statement}
 use Rattle.cursive.proofs.attachment.separate.Tie as tie

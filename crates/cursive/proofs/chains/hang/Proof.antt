@@ -4,7 +4,7 @@ use denote.Ref.{now}
 use Rattle.ints.specs.Signed.{val}
 use Rattle.slots.specs.Line.{slots}
 use Rattle.slots.proofs.LineLaws.{length-slots}
-use Rattle.cursive.proofs.UpdateLaws.{hung-by}
+use Rattle.cursive.proofs.ChainsLaws.{hung-by}
 use borrow.Author.Needs.{needs}
 use Rattle.cursive.proofs.chains.hang.Statement.{statement}
 use Rattle.cursive.proofs.chains.hang.Tie as tie

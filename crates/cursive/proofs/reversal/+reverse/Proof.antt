@@ -13,9 +13,10 @@ use Rattle.slots.specs.Fields.{cursiveBit}
 use Rattle.slots.specs.Parent.{parent}
 use Rattle.slots.specs.declared.parent.Parent.the-variants.{At}
 use Rattle.slots.proofs.LineLaws.{length-slots}
+use Rattle.slots.proofs.ParentLaws.{parent-in-line}
 use Rattle.cursive.specs.Chains.{attachedCount}
-use Rattle.cursive.proofs.ChainsLaws.{zero-fits}
-use Rattle.cursive.proofs.ReversalLaws.{ends-new, ends-outside, falls-at, goes-on, parent-in, reversed-free, stays-plain}
+use Rattle.slots.proofs.ChainLaws.{zero-fits}
+use Rattle.cursive.proofs.ReversalLaws.{ends-new, ends-outside, falls-at, goes-on, reversed-free, stays-plain}
 use borrow.Fn.Kinds.{In}
 use borrow.Fn.PlainCycle.{Measures, is, falls, and}
 use Rattle.cursive.proofs.reversal.reverse.Reads as reverse
@@ -95,7 +96,7 @@ parent-is t k = sym (k .before .before .before .parent-of .ensures) ∙ k .befor
 there : (t : ℕ) (k : Known t) → to t k < count (now (start t k .args .line))
 there t k =
     let l = now (start t k .args .line) in
-    omega (arith, length-slots l, parent-in (slots l) (start t k .args .i) (to t k) (parent-is t k))
+    omega (arith, length-slots l, parent-in-line (slots l) (start t k .args .i) (to t k) (parent-is t k))
 
 -- the type that was read is the slot's, and has the cursive bit
 kind-is : (t : ℕ) (k : Known t) → k .before .before .before .before .before .before .before .get-byte .result ≡ slot (slots (now (start t k .args .line))) (start t k .args .i) .attachType

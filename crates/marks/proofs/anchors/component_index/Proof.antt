@@ -18,7 +18,7 @@ returns c =
     let g = c .before in
     let a = g .before .before .args in
     let ss = slots (now (a .line)) in
-    component-none (a .n) (slot ss (a .idx)) (slot ss (a .b)) (omega arith) (g .get-byte .result) (g .get-byte .ensures) (c .if1 .taken)
+    component-none (a .n) (slot ss (a .idx)) (slot ss (a .b)) (omega arith) (g .get-byte .ensures) (c .if1 .taken)
 
 get-byte-requires-2 : tie.Need-get-byte-requires-2
 get-byte-requires-2 c κs = search needs
@@ -31,8 +31,8 @@ returns-2 c =
     let g = c .before .before .before in
     let a = g .before .before .args in
     let ss = slots (now (a .line)) in
-    component-other (a .n) (slot ss (a .idx)) (slot ss (a .b)) (omega arith) (g .get-byte .result) (g .get-byte .ensures) (c .before .before .if1 .left)
-    (c .before .get-byte2 .result) (c .before .get-byte2 .ensures) (c .if2 .taken)
+    component-other (a .n) (slot ss (a .idx)) (slot ss (a .b)) (omega arith) (g .get-byte .ensures) (c .before .before .if1 .left)
+    (c .before .get-byte2 .ensures) (c .if2 .taken)
 
 get-byte-requires-3 : tie.Need-get-byte-requires-3
 get-byte-requires-3 c κs = search needs
@@ -49,8 +49,8 @@ returns-3 c =
     let g = f .before .before .before in
     let a = g .before .before .args in
     let ss = slots (now (a .line)) in
-    component-zero (a .n) (slot ss (a .idx)) (slot ss (a .b)) (omega arith) (g .get-byte .result) (g .get-byte .ensures) (f .before .before .if1 .left)
-    (f .before .get-byte2 .result) (f .before .get-byte2 .ensures) (f .if2 .left) (c .before .get-byte3 .result) (c .before .get-byte3 .ensures) (c .if3 .taken)
+    component-zero (a .n) (slot ss (a .idx)) (slot ss (a .b)) (omega arith) (g .get-byte .ensures) (f .before .before .if1 .left)
+    (f .before .get-byte2 .ensures) (f .if2 .left) (c .before .get-byte3 .ensures) (c .if3 .taken)
 
 sub-result-4 : tie.Need-sub-result-4
 sub-result-4 c = search needs
@@ -62,8 +62,8 @@ returns-4 c =
     let g = f .before .before .before in
     let a = g .before .before .args in
     let ss = slots (now (a .line)) in
-    component-past (a .n) (slot ss (a .idx)) (slot ss (a .b)) (omega arith) (g .get-byte .result) (g .get-byte .ensures) (f .before .before .if1 .left)
-    (f .before .get-byte2 .result) (f .before .get-byte2 .ensures) (f .if2 .left) (e .before .get-byte3 .result) (e .before .get-byte3 .ensures) (e .if3 .left) (c .if4 .taken)
+    component-past (a .n) (slot ss (a .idx)) (slot ss (a .b)) (omega arith) (g .get-byte .ensures) (f .before .before .if1 .left)
+    (f .before .get-byte2 .ensures) (f .if2 .left) (e .before .get-byte3 .ensures) (e .if3 .left) (c .if4 .taken)
 
 sub-result-5 : tie.Need-sub-result-5
 sub-result-5 c = search needs
@@ -75,8 +75,8 @@ returns-5 c =
     let g = f .before .before .before in
     let a = g .before .before .args in
     let ss = slots (now (a .line)) in
-    component-own (a .n) (slot ss (a .idx)) (slot ss (a .b)) (omega arith) (g .get-byte .result) (g .get-byte .ensures) (f .before .before .if1 .left)
-    (f .before .get-byte2 .result) (f .before .get-byte2 .ensures) (f .if2 .left) (e .before .get-byte3 .result) (e .before .get-byte3 .ensures) (e .if3 .left) (c .if4 .left)
+    component-own (a .n) (slot ss (a .idx)) (slot ss (a .b)) (omega arith) (g .get-byte .ensures) (f .before .before .if1 .left)
+    (f .before .get-byte2 .ensures) (f .if2 .left) (e .before .get-byte3 .ensures) (e .if3 .left) (c .if4 .left)
 
 pub component-index-spec : {M : Type 1} → statement M
 component-index-spec =

@@ -2,17 +2,17 @@
 use mathlib.Core.Path.{_≡_, sym, ap, subst, _∙_}
 use native.Mathlib.Omega.{arith}
 use denote.Ref.{now}
-use lib.IntN.{ℤ}
 use Rattle.ints.specs.Signed.{val}
 use Rattle.slots.specs.Axis.{cross}
-use Rattle.slots.specs.Fields.{withChain}
-use Rattle.slots.specs.Line.{slots, update}
+use Rattle.slots.specs.Line.{slots}
 use Rattle.slots.specs.declared.axis.Axis.{Axis}
+use Rattle.slots.proofs.ChainLaws.{zero-fits}
+use Rattle.slots.proofs.ParentLaws.{cleared-is}
 use Rattle.tables.specs.Anchor.{spotOf}
 use Rattle.answers.specs.Said.{ranges, said}
 use Rattle.marks.specs.Codes.{meant, Sound}
 use Rattle.marks.specs.Plan.{planOf}
-use Rattle.marks.proofs.AttachmentLaws.{chain-none, effect-endless, effect-far, effect-hung, effect-stop, none-fits}
+use Rattle.marks.proofs.AttachmentLaws.{effect-endless, effect-far, effect-hung, effect-stop}
 use borrow.Author.Needs.{needs}
 use Rattle.marks.proofs.attachment.attach.Statement.{statement}
 use Rattle.marks.proofs.attachment.attach.Tie as tie
@@ -50,7 +50,7 @@ sub-if1 c =
     omega (arith, sound .0)
 
 set-chain-requires : tie.Need-set-chain-requires
-set-chain-requires c κs = (search needs, none-fits)
+set-chain-requires c κs = (search needs, zero-fits)
 
 passed-requires : tie.Need-passed-requires
 passed-requires c κs = search needs
@@ -64,13 +64,8 @@ returns c =
     let k = i .before .before in
     let s = k .before .before in
     let a = s .before .before .before .before .before .args in
-    let ss = slots (now (a .line)) in
-    let g = k .decision2 .given .0 in
-    let chain = c .before .before .before .set-chain in
-    effect-far (a .s) (a .u) (a .d) (a .idx) (planOf (a .kind) (cross (a .d)) (now (a .t)) ss (a .idx)) ss
-    (g .0) (spotOf (g .1 .0)) (spotOf (g .1 .1 .0)) (val (g .1 .1 .1 .0)) (sym (ap meant (k .decision2 .given .1)) ∙ as-planned s)
-    (said (c .passed .result)) (slots (chain .last .0)) (i .if1 .taken) (c .passed .ensures)
-    (chain .ensures ∙ ap (λ (z : ℤ). update (a .idx) (withChain z) ss) chain-none)
+    effect-far (a .s) (a .u) (a .d) (a .idx) (sym (ap meant (k .decision2 .given .1)) ∙ as-planned s) (i .if1 .taken) (c .passed .ensures)
+    (cleared-is (slots (now (a .line))) (a .idx) (c .before .before .before .set-chain .ensures))
 
 hang-requires : tie.Need-hang-requires
 hang-requires c κs =
@@ -95,9 +90,7 @@ returns-2 c =
     let k = c .before in
     let s = k .before .before in
     let a = s .before .before .before .before .before .args in
-    let ss = slots (now (a .line)) in
-    effect-stop (a .s) (a .u) (a .d) (a .idx) (planOf (a .kind) (cross (a .d)) (now (a .t)) ss (a .idx)) ss
-    (ranges (k .decision .given .0 .0)) (sym (ap meant (k .decision .given .1)) ∙ as-planned s)
+    effect-stop (a .s) (a .u) (a .d) (a .idx) (sym (ap meant (k .decision .given .1)) ∙ as-planned s)
 
 same-length-3 : tie.Need-same-length-3
 same-length-3 c = search needs
@@ -106,9 +99,7 @@ returns-3 : tie.Need-returns-3
 returns-3 c =
     let s = c .before .before in
     let a = s .before .before .before .before .before .args in
-    let ss = slots (now (a .line)) in
-    effect-endless (a .s) (a .u) (a .d) (a .idx) (planOf (a .kind) (cross (a .d)) (now (a .t)) ss (a .idx)) ss
-    (sym (ap meant (c .enum-told .given .1)) ∙ as-planned s)
+    effect-endless (a .s) (a .u) (a .d) (a .idx) (sym (ap meant (c .enum-told .given .1)) ∙ as-planned s)
 
 same-length-4 : tie.Need-same-length-4
 same-length-4 c = search needs
@@ -119,12 +110,8 @@ returns-4 c =
     let k = i .before .before in
     let s = k .before .before in
     let a = s .before .before .before .before .before .args in
-    let ss = slots (now (a .line)) in
-    let g = k .decision2 .given .0 in
-    let call = c .before .before .before .hang in
-    effect-hung (a .s) (a .u) (a .d) (a .idx) (planOf (a .kind) (cross (a .d)) (now (a .t)) ss (a .idx)) ss
-    (g .0) (spotOf (g .1 .0)) (spotOf (g .1 .1 .0)) (val (g .1 .1 .1 .0)) (sym (ap meant (k .decision2 .given .1)) ∙ as-planned s)
-    (said (c .passed2 .result)) (slots (call .last .0)) (i .if1 .left) (c .passed2 .ensures) (call .ensures)
+    effect-hung (a .s) (a .u) (a .d) (a .idx) (sym (ap meant (k .decision2 .given .1)) ∙ as-planned s) (i .if1 .left) (c .passed2 .ensures)
+    (c .before .before .before .hang .ensures)
 
 pub attach-spec : {M : Type 1} → statement M
 attach-spec =

@@ -15,7 +15,7 @@ returns c =
     let b = c .before in
     let a = b .before .before .args in
     let ss = slots (now (a .line)) in
-    goes-mark (slot ss (a .p)) (slot ss (a .i)) (b .has-flag .result) (b .has-flag .ensures) (c .if1 .taken)
+    goes-mark (slot ss (a .p)) (slot ss (a .i)) (b .has-flag .ensures) (c .if1 .taken)
 
 has-flag-requires-2 : tie.Need-has-flag-requires-2
 has-flag-requires-2 c κs = search needs
@@ -25,8 +25,8 @@ returns-2 c =
     let b = c .before .before .before in
     let a = b .before .before .args in
     let ss = slots (now (a .line)) in
-    goes-single (slot ss (a .p)) (slot ss (a .i)) (b .has-flag .result) (b .has-flag .ensures) (c .before .before .if1 .left)
-    (c .before .has-flag2 .result) (c .before .has-flag2 .ensures) (not-true _ (c .if2 .taken))
+    goes-single (slot ss (a .p)) (slot ss (a .i)) (b .has-flag .ensures) (c .before .before .if1 .left)
+    (c .before .has-flag2 .ensures) (not-true _ (c .if2 .taken))
 
 get-byte-requires : tie.Need-get-byte-requires
 get-byte-requires c κs = search needs
@@ -40,9 +40,9 @@ returns-3 c =
     let b = d .before .before .before in
     let a = b .before .before .args in
     let ss = slots (now (a .line)) in
-    goes-other (slot ss (a .p)) (slot ss (a .i)) (b .has-flag .result) (b .has-flag .ensures) (d .before .before .if1 .left)
-    (d .before .has-flag2 .result) (d .before .has-flag2 .ensures) (not-false _ (d .if2 .left))
-    (c .before .before .get-byte .result) (c .before .get-byte2 .result) (c .before .before .get-byte .ensures) (c .before .get-byte2 .ensures) (c .if3 .taken)
+    goes-other (slot ss (a .p)) (slot ss (a .i)) (b .has-flag .ensures) (d .before .before .if1 .left)
+    (d .before .has-flag2 .ensures) (not-false _ (d .if2 .left))
+    (c .before .before .get-byte .ensures) (c .before .get-byte2 .ensures) (c .if3 .taken)
 
 get-byte-requires-3 : tie.Need-get-byte-requires-3
 get-byte-requires-3 c κs = search needs
@@ -66,10 +66,10 @@ returns-4 c =
     let b = d .before .before .before in
     let a = b .before .before .args in
     let ss = slots (now (a .line)) in
-    goes-next (slot ss (a .p)) (slot ss (a .i)) (b .has-flag .result) (b .has-flag .ensures) (d .before .before .if1 .left)
-    (d .before .has-flag2 .result) (d .before .has-flag2 .ensures) (not-false _ (d .if2 .left))
-    (e .before .before .get-byte .result) (e .before .get-byte2 .result) (e .before .before .get-byte .ensures) (e .before .get-byte2 .ensures) (e .if3 .left)
-    (c .before .get-byte3 .result) (c .get-byte4 .result) (c .before .get-byte3 .ensures) (c .get-byte4 .ensures)
+    goes-next (slot ss (a .p)) (slot ss (a .i)) (b .has-flag .ensures) (d .before .before .if1 .left)
+    (d .before .has-flag2 .ensures) (not-false _ (d .if2 .left))
+    (e .before .before .get-byte .ensures) (e .before .get-byte2 .ensures) (e .if3 .left)
+    (c .before .get-byte3 .ensures) (c .get-byte4 .ensures)
 
 pub goes-on-spec : {M : Type 1} → statement M
 goes-on-spec =

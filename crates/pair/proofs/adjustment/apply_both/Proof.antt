@@ -7,7 +7,7 @@ use denote.Ref.{now}
 use Rattle.slots.specs.Line.{slots}
 use Rattle.pair.specs.Adjustment.{eitherWorked, planned}
 use Rattle.pair.specs.Plan.{adjust}
-use Rattle.pair.proofs.AdjustmentLaws.{both-applied, either-works}
+use Rattle.pair.proofs.AdjustmentLaws.{both-applied}
 use Rattle.pair.proofs.PairPosLaws.{good}
 use Rattle.pair.proofs.adjustment.apply_both.Statement.{statement}
 use Rattle.pair.proofs.adjustment.apply_both.Tie as tie
@@ -55,11 +55,13 @@ apply-value-requires-2 c κs =
 abbrev start : tie.After-slice-known3 → tie.Start
 start c = c .before .before .before .before .before .before .before .before .before .before .before .before .before .before .before .before
 
-slots-are : (c : tie.After-slice-known3)
+both : (c : tie.After-slice-known3)
     → let a = start c .args in
-    slots (c .before .before .apply-value2 .last .0)
-    ≡ planned (a .s) (a .u) (a .d) (now (a .t)) (a .idx) (adjust (now (a .table)) (a .at) (a .second)) (slots (now (a .line)))
-slots-are c =
+    (slots (c .before .before .apply-value2 .last .0)
+    ≡ planned (a .s) (a .u) (a .d) (now (a .t)) (a .idx) (adjust (now (a .table)) (a .at) (a .second)) (slots (now (a .line))))
+    × (c .before .before .before .before .before .before .before .before .apply-value .result || c .before .before .apply-value2 .result
+    ≡ eitherWorked (a .d) (now (a .t)) (now (a .table)) (a .at))
+both c =
     let v₂ = c .before .before in
     let r₂ = v₂ .before in
     let l = r₂ .before .before in
@@ -68,42 +70,23 @@ slots-are c =
     let f₂ = r₁ .before .before in
     let f₁ = f₂ .before in
     let a = start c .args in
-    both-applied (a .s) (a .u) (a .d) (now (a .t)) (now (a .table)) (a .at) (f₁ .read-u16 .result) (f₂ .read-u162 .result) (l .record-len .result)
-    (now (r₁ .record-at .result)) (now (r₂ .record-at2 .result)) (f₁ .read-u16 .ensures .0) (f₂ .read-u162 .ensures .0) (l .record-len .ensures .0)
-    (r₁ .record-at .ensures) (r₂ .record-at2 .ensures) (a .idx) (a .second) (slots (now (a .line))) (slots (v₁ .apply-value .last .0))
-    (slots (v₂ .apply-value2 .last .0)) (v₁ .apply-value .ensures .0) (v₂ .apply-value2 .ensures .0)
-
-works : (c : tie.After-slice-known3)
-    → let a = start c .args in
-    c .before .before .before .before .before .before .before .before .apply-value .result || c .before .before .apply-value2 .result
-    ≡ eitherWorked (a .d) (now (a .t)) (now (a .table)) (a .at)
-works c =
-    let v₂ = c .before .before in
-    let r₂ = v₂ .before in
-    let l = r₂ .before .before in
-    let v₁ = l .before .before .before in
-    let r₁ = v₁ .before in
-    let f₂ = r₁ .before .before in
-    let f₁ = f₂ .before in
-    let a = start c .args in
-    either-works (a .s) (a .u) (a .d) (now (a .t)) (now (a .table)) (a .at) (f₁ .read-u16 .result) (f₂ .read-u162 .result) (l .record-len .result)
-    (now (r₁ .record-at .result)) (now (r₂ .record-at2 .result)) (f₁ .read-u16 .ensures .0) (f₂ .read-u162 .ensures .0) (l .record-len .ensures .0)
-    (r₁ .record-at .ensures) (r₂ .record-at2 .ensures) (v₁ .apply-value .result) (v₂ .apply-value2 .result) (v₁ .apply-value .ensures .1)
-    (v₂ .apply-value2 .ensures .1)
+    both-applied (a .s) (a .u) (a .d) (now (a .t)) (now (a .table)) (a .at) (a .idx) (a .second) (slots (now (a .line)))
+    (f₁ .read-u16 .ensures .0) (f₂ .read-u162 .ensures .0) (l .record-len .ensures .0) (r₁ .record-at .ensures) (r₂ .record-at2 .ensures)
+    (v₁ .apply-value .ensures) (v₂ .apply-value2 .ensures)
 
 same-length : tie.Need-same-length
 same-length c = search needs
 
 returns : tie.Need-returns
 returns c =
-    (slots-are (c .before), sym (ap (λ (w : Bool). w || c .before .before .before .apply-value2 .result) (c .if1 .taken)) ∙ works (c .before))
+    (both (c .before) .0, sym (ap (λ (w : Bool). w || c .before .before .before .apply-value2 .result) (c .if1 .taken)) ∙ both (c .before) .1)
 
 same-length-2 : tie.Need-same-length-2
 same-length-2 c = search needs
 
 returns-2 : tie.Need-returns-2
 returns-2 c =
-    (slots-are (c .before), sym (ap (λ (w : Bool). w || c .before .before .before .apply-value2 .result) (c .if1 .left)) ∙ works (c .before))
+    (both (c .before) .0, sym (ap (λ (w : Bool). w || c .before .before .before .apply-value2 .result) (c .if1 .left)) ∙ both (c .before) .1)
 
 pub apply-both-spec : {M : Type 1} → statement M
 apply-both-spec =

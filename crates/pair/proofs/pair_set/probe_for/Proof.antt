@@ -55,10 +55,7 @@ add-if1 : tie.Need-add-if1 Inv-loop μ-loop
 add-if1 c = omega (arith, near c)
 
 returns : tie.Need-returns Inv-loop μ-loop
-returns c =
-    let l = c .before .before in
-    let a = l .before .before .before .args in
-    (sym (cut (now (a .set)) (a .size) (a .glyph) (l .loop .lo) (l .loop .hi) _ (l .loop .inv .2) (c .before .loop-test .taken) (c .if1 .taken)), tt)
+returns c = (sym (cut (c .before .before .loop .inv .2) (c .before .loop-test .taken) (c .if1 .taken)), tt)
 
 read-u16-requires-2 : tie.Need-read-u16-requires-2 Inv-loop μ-loop
 read-u16-requires-2 c κs = omega arith
@@ -70,12 +67,10 @@ loop-again : tie.Need-loop-again Inv-loop μ-loop
 loop-again c =
     let b = c .before in
     let e = b .before in
-    let l = e .before .before in
-    let a = l .before .before .before .args in (
+    let l = e .before .before in (
       omega arith,
       omega arith,
-      down (now (a .set)) (a .size) (a .glyph) (l .loop .lo) (l .loop .hi) _ (l .loop .inv .2) (e .before .loop-test .taken) (e .if1 .left)
-          (omega (arith, b .read-u162 .ensures .0)),
+      down (l .loop .inv .2) (e .before .loop-test .taken) (e .if1 .left) (omega (arith, b .read-u162 .ensures .0)),
     )
 
 add-lo : tie.Need-add-lo Inv-loop μ-loop
@@ -88,30 +83,24 @@ loop-again-2 : tie.Need-loop-again-2 Inv-loop μ-loop
 loop-again-2 c =
     let b = c .before .before in
     let e = b .before in
-    let l = e .before .before in
-    let a = l .before .before .before .args in (
+    let l = e .before .before in (
       omega arith,
       omega arith,
-      up (now (a .set)) (a .size) (a .glyph) (l .loop .lo) (l .loop .hi) _ (l .loop .inv .2) (e .before .loop-test .taken) (e .if1 .left)
-          (omega (arith, b .read-u162 .ensures .0)),
+      up (l .loop .inv .2) (e .before .loop-test .taken) (e .if1 .left) (omega (arith, b .read-u162 .ensures .0)),
     )
 
 returns-2 : tie.Need-returns-2 Inv-loop μ-loop
 returns-2 c =
     let b = c .before .before in
     let e = b .before in
-    let l = e .before .before in
-    let a = l .before .before .before .args in (
-      sym (hit (now (a .set)) (a .size) (a .glyph) (l .loop .lo) (l .loop .hi) _ (l .loop .inv .2) (e .before .loop-test .taken) (e .if1 .left)
+    let l = e .before .before in (
+      sym (hit (l .loop .inv .2) (e .before .loop-test .taken) (e .if1 .left)
           (omega (arith, b .read-u162 .ensures .0)) (omega (arith, b .read-u162 .ensures .0))),
       omega (arith, near (e .before)),
     )
 
 returns-3 : tie.Need-returns-3 Inv-loop μ-loop
-returns-3 c =
-    let l = c .before in
-    let a = l .before .before .before .args in
-    (sym (over (now (a .set)) (a .size) (a .glyph) (l .loop .lo) (l .loop .hi) _ (l .loop .inv .2) (c .loop-test .left)), tt)
+returns-3 c = (sym (over (c .before .loop .inv .2) (c .loop-test .left)), tt)
 
 pub probe-for-spec : {M : Type 1} → statement M
 probe-for-spec =

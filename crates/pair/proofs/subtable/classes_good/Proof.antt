@@ -4,18 +4,19 @@ use native.Mathlib.Omega.{arith}
 use borrow.Author.Needs.{needs}
 use denote.Ref.{now}
 use Rattle.tables.specs.ClassDef.{classGoodAt}
-use Rattle.pair.proofs.PairPosLaws.{classes-bad, classes-both, classes-none, header}
+use Rattle.tables.proofs.HeaderLaws.{header}
+use Rattle.pair.proofs.PairPosLaws.{classes-bad, classes-both, classes-none}
 use Rattle.pair.proofs.subtable.classes_good.Statement.{statement}
 use Rattle.pair.proofs.subtable.classes_good.Tie as tie
 
 read-u16-requires : tie.Need-read-u16-requires
-read-u16-requires c κs = omega (arith, header (now (c .before .args .t)) (c .before .pre) .whole)
+read-u16-requires c κs = omega (arith, header 10 16 (now (c .before .args .t)) (c .before .pre) .whole)
 
 returns : tie.Need-returns
 returns c = let r = c .before in classes-none (now (r .before .before .args .t)) (sym (r .read-u16 .ensures .0) ∙ c .if1 .taken)
 
 read-u16-requires-2 : tie.Need-read-u16-requires-2
-read-u16-requires-2 c κs = let s = c .before .before .before in omega (arith, header (now (s .args .t)) (s .pre) .whole)
+read-u16-requires-2 c κs = let s = c .before .before .before in omega (arith, header 10 16 (now (s .args .t)) (s .pre) .whole)
 
 cast-good-at : tie.Need-cast-good-at
 cast-good-at c = search needs
@@ -27,7 +28,7 @@ read-u16-requires-3 : tie.Need-read-u16-requires-3
 read-u16-requires-3 c κs =
     let g = c .before .before .before in
     let s = g .before .before .before in
-    omega (arith, header (now (s .args .t)) (s .pre) .whole2 (λ e. g .if1 .left (g .before .read-u16 .ensures .0 ∙ e)))
+    omega (arith, header 10 16 (now (s .args .t)) (s .pre) .whole2 (λ e. g .if1 .left (g .before .read-u16 .ensures .0 ∙ e)))
 
 cast-good-at-2 : tie.Need-cast-good-at-2
 cast-good-at-2 c = search needs

@@ -8,8 +8,10 @@ use borrow.Author.Needs.{needs}
 use borrow.Author.Tests.{not-false, not-true}
 use denote.Ref.{now}
 use Rattle.tables.specs.Coverage.{coverageGoodAt}
-use Rattle.pair.specs.PairPos.{format1, format2, headerGood}
-use Rattle.pair.proofs.PairPosLaws.{bad-coverage, bad-header, by-classes, header, too-long, unknown-first, unknown-second}
+use Rattle.tables.specs.Header.{headerGood}
+use Rattle.tables.proofs.HeaderLaws.{header}
+use Rattle.pair.specs.PairPos.{format1, format2}
+use Rattle.pair.proofs.PairPosLaws.{bad-coverage, bad-header, by-classes, too-long, unknown-first, unknown-second}
 use Rattle.pair.proofs.subtable.is_good.Statement.{statement}
 use Rattle.pair.proofs.subtable.is_good.Tie as tie
 
@@ -25,11 +27,11 @@ returns-2 c =
     bad-header (now (b .before .before .before .args .t)) (b .before .if1 .left) (sym (not-true _ (c .if2 .taken)) ∙ b .header-good .ensures)
 
 -- past the test of the header
-headed : (c : tie.Else2) → true ≡ headerGood (now (c .before .before .before .before .args .t))
+headed : (c : tie.Else2) → true ≡ headerGood 10 16 (now (c .before .before .before .before .args .t))
 headed c = sym (not-false _ (c .if2 .left)) ∙ c .before .header-good .ensures
 
 long : (c : tie.Else2) → 10 ≤ length (now (c .before .before .before .before .args .t))
-long c = header (now (c .before .before .before .before .args .t)) (sym (headed c)) .whole
+long c = header 10 16 (now (c .before .before .before .before .args .t)) (sym (headed c)) .whole
 
 read-u16-requires : tie.Need-read-u16-requires
 read-u16-requires c κs = omega (arith, long c)

@@ -1,9 +1,9 @@
--- `single::subtable::header_good` meets its contract: at each `return` the tests say which case of `headerGood` holds. Assumes nothing.
+-- `tables::header::header_good` meets its contract: at each `return` the tests say which case of `headerGood` holds. Assumes nothing.
 use borrow.Author.Needs.{needs}
 use borrow.Author.Tests.{eq-eqb, le-leb, lt-leb, ne-eqb}
-use Rattle.single.specs.SinglePos.{headerGood}
-use Rattle.single.proofs.subtable.header_good.Statement.{statement}
-use Rattle.single.proofs.subtable.header_good.Tie as tie
+use Rattle.tables.specs.Header.{headerGood}
+use Rattle.tables.proofs.header.header_good.Statement.{statement}
+use Rattle.tables.proofs.header.header_good.Tie as tie
 
 returns : tie.Need-returns
 unfolding headerGood

@@ -1,0 +1,27 @@
+-- What the check of a header says of a subtable's bytes. Assumes nothing.
+use mathlib.Core.Path.{_≡_}
+use mathlib.Core.Bool.{true, _&&_}
+use mathlib.Core.List.{List}
+use Prim.Native.Nat.{ℕ, _≤_}
+use lib.Dec.{eqb, leb}
+use lib.ListN.{length}
+use borrow.Author.Tests.{eqb-true, leb-true, ne-eqb}
+use Rattle.tables.specs.Header.{headerGood, posFormat}
+use Rattle.tables.proofs.SpansLaws.{and-left, and-right}
+
+-- it is whole, also where the format isn't 1, which then is 2
+pub record Header (one two : ℕ) (t : List ℕ) : Type 0 where
+  pub whole : one ≤ length t
+  pub known : (posFormat t ≡ 1 → ⊥) → posFormat t ≡ 2
+  pub whole2 : (posFormat t ≡ 1 → ⊥) → two ≤ length t
+
+pub header : (one two : ℕ) (t : List ℕ) → headerGood one two t ≡ true → Header one two t
+unfolding headerGood
+header one two t e = record {
+  whole = leb-true one (length t) (and-left _ _ e);
+  known = λ n. eqb-true (posFormat t) 2 (and-left _ _ (second n));
+  whole2 = λ n. leb-true two (length t) (and-right (eqb (posFormat t) 2) _ (second n));
+}
+  where
+    second : (posFormat t ≡ 1 → ⊥) → eqb (posFormat t) 2 && leb two (length t) ≡ true
+    second n = simp (ne-eqb (posFormat t) 1 n) at (and-right (leb one (length t)) _ e)

@@ -1,0 +1,23 @@
+// The header of a subtable that is of format 1 or 2.
+use ints::big_endian::read_u16;
+ghost use mathlib.Core.Path.{_≡_};
+ghost use Prim.Native.Nat.{_≤_};
+ghost use Rattle.tables.specs.Header.{headerGood};
+
+// The header is whole and its format known: it has `one` bytes in format 1, `two` in format 2.
+pub fn header_good(t: &[u8], one: usize, two: usize) -> bool
+    requires { ⌜ 2 ≤ one ⌝ }
+    ensures { λ r. ⌜ r ≡ headerGood one two (now (t .entry)) ⌝ }
+{
+    if t.len() < one {
+        return false;
+    }
+    let format = read_u16(t, 0);
+    if format == 1 {
+        return true;
+    }
+    if format == 2 {
+        return two <= t.len();
+    }
+    false
+}
