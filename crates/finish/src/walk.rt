@@ -66,19 +66,19 @@ pub fn walk(line: &[u8], d: Direction, i: usize, j: usize, from: Offsets) -> Off
     requires { ⌜ (i < count (now line)) × (j < count (now line)) ⌝ }
     ensures { λ r. ⌜ (val (r .x) ≡ walked d X (slots (now (line .entry))) i j (val (from .x))) × (val (r .y) ≡ walked d Y (slots (now (line .entry))) i j (val (from .y))) ⌝ }
 {
-    if j < i {
-        if slots::axis::is_forward(d) {
+    if slots::axis::is_forward(d) {
+        if j < i {
             return step_all(slots::fields::slots_between(line, j, i), i - j, from, true);
         }
+        return step_all(slots::fields::slots_between(line, i, j), j - i, from, false);
+    }
+    if j < i {
         return step_all(
             slots::fields::slots_between(line, j + 1, i + 1),
             i - j,
             from,
             false,
         );
-    }
-    if slots::axis::is_forward(d) {
-        return step_all(slots::fields::slots_between(line, i, j), j - i, from, false);
     }
     step_all(
         slots::fields::slots_between(line, i + 1, j + 1),
