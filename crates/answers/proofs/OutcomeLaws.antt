@@ -11,7 +11,7 @@ use Rattle.slots.specs.Slot.{Slot, slotSize}
 use Rattle.slots.specs.Line.{bytes, slots}
 use Rattle.slots.specs.Checks.{misshapen, mostSlots}
 use Rattle.slots.proofs.LineLaws.{from-slots, same-slots}
-use Rattle.answers.specs.Said.{Range, Said, applied, declined, done, refused, said, saidDone}
+use Rattle.answers.specs.Said.{Said, applied, declined, done, refused, said, saidDone}
 use Rattle.answers.specs.Outcome.{Effect, lineAfter, Outcome, slotsAfter}
 use Rattle.answers.specs.declared.Answer.{Answer}
 use Rattle.answers.specs.declared.Done.{Done}
@@ -42,14 +42,8 @@ module _ (l : List ℕ) (s : Said) (ss : List Slot) where
   pub outcome-refused : (n : ℕ) → s ≡ refused n → Outcome l s ss (refused n) l
   outcome-refused n e = record { answer = sym e; line = rw e }
 
-  pub outcome-declined : (rs : List Range) → s ≡ declined rs → Outcome l s ss (declined rs) l
-  outcome-declined rs e = record { answer = sym e; line = rw e }
-
   pub outcome-done : (l′ : List ℕ) → s ≡ done → l′ ≡ bytes ss → Outcome l s ss done l′
   outcome-done l′ e b = record { answer = sym e; line = rw e b }
-
-  pub outcome-applied : (l′ : List ℕ) (n : ℕ) (rs : List Range) (a : Bool) → s ≡ applied n rs a → l′ ≡ bytes ss → Outcome l s ss (applied n rs a) l′
-  outcome-applied l′ n rs a e b = record { answer = sym e; line = rw e b }
 
 -- from a core's effect on the slots of a whole line to the outcome
 pub outcome-of : (l l′ : List ℕ) (s : Said) (new : List Slot) (given : Said) → misshapen l ≡ false → Bytes l → Bytes l′ → length l′ ≡ length l

@@ -1,5 +1,5 @@
 -- Each export leaves one result and one line, since its namesake does. Assumes nothing.
-use mathlib.Core.Path.{_≡_, sym, ap, _∙_}
+use mathlib.Core.Path.{sym, ap, _∙_}
 use mathlib.Core.List.{List}
 use Prim.Native.Nat.{ℕ}
 use Rattle.gpos.specs.Cursive.{Cursived}

@@ -4,12 +4,11 @@ use mathlib.Core.Bool.{Bool, not}
 use native.Mathlib.Omega.{arith}
 use borrow.Author.Tests.{le-leb, lt-leb, not-false}
 use lib.Dec.{leb}
-use Rattle.slots.specs.Axis.{directionOf}
+use Rattle.slots.specs.Axis.{cross, directionOf}
 use Rattle.slots.specs.Line.{count, slots}
 use Rattle.slots.specs.declared.axis.Direction.{Direction}
 use Rattle.answers.specs.Said.{done, said, saidDone, unless}
 use Rattle.answers.specs.Outcome.{Effect}
-use Rattle.slots.specs.Axis.{cross}
 use Rattle.marks.specs.Attachment.{planned}
 use Rattle.marks.specs.MarkPos.{marksGood}
 use Rattle.marks.specs.Plan.{planOf, planSaid}

@@ -2,14 +2,11 @@
 use mathlib.Core.Path.{_≡_, sym, ap, subst, _∙_}
 use native.Mathlib.Omega.{arith}
 use denote.Ref.{now}
-use Rattle.ints.specs.Signed.{val}
 use Rattle.slots.specs.Axis.{cross}
 use Rattle.slots.specs.Line.{slots}
 use Rattle.slots.specs.declared.axis.Axis.{Axis}
 use Rattle.slots.proofs.ChainLaws.{zero-fits}
 use Rattle.slots.proofs.ParentLaws.{cleared-is}
-use Rattle.tables.specs.Anchor.{spotOf}
-use Rattle.answers.specs.Said.{ranges, said}
 use Rattle.marks.specs.Codes.{meant, Sound}
 use Rattle.marks.specs.Plan.{planOf}
 use Rattle.marks.proofs.AttachmentLaws.{effect-endless, effect-far, effect-hung, effect-stop}

@@ -1,6 +1,5 @@
 -- The four bytes at the measure's place are the measure. Assumes nothing.
 use mathlib.Core.Path.{ap, _∙_}
-use Prim.Native.Nat.{_-_}
 use Rattle.ints.specs.Signed.{intAt}
 use Rattle.slots.specs.Fields.{measure}
 use Rattle.slots.proofs.FieldLaws.{measure-get}

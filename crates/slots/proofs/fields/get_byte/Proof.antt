@@ -1,6 +1,6 @@
 -- The byte at the field's place is the field. Assumes nothing.
 use mathlib.Core.Path.{ap, _∙_}
-use Prim.Native.Nat.{ℕ, _-_}
+use Prim.Native.Nat.{ℕ}
 use lib.ListN.{getD}
 use Rattle.slots.specs.Fields.{byteOf}
 use Rattle.slots.proofs.FieldLaws.{byte-get}

@@ -1,6 +1,6 @@
 -- A store at the field's place is a change of the field. Assumes nothing.
 use mathlib.Core.Path.{ap, _∙_}
-use Prim.Native.Nat.{ℕ, _-_}
+use Prim.Native.Nat.{ℕ}
 use lib.ListN.{set}
 use Rattle.slots.specs.Slot.{slotOf}
 use Rattle.slots.proofs.FieldLaws.{byte-put}

@@ -1,5 +1,5 @@
 -- The four directions in turn. Assumes nothing.
-use Prim.Native.Nat.{_+_, _-_, _≤_}
+use Prim.Native.Nat.{_-_, _≤_}
 use borrow.Author.Needs.{needs}
 use Rattle.sums.proofs.adjusting.adjust_all.Statement.{statement}
 use Rattle.sums.proofs.adjusting.adjust_all.Tie as tie
