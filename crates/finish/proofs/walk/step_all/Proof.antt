@@ -6,7 +6,7 @@ use borrow.Author.Needs.{needs}
 use lib.ListN.{take}
 use Rattle.ints.specs.Saturating.{unlifted}
 use Rattle.ints.specs.Sums.{stepwise}
-use Rattle.slots.specs.Line.{count, slots}
+use Rattle.slots.specs.Line.{slots}
 use Rattle.slots.specs.declared.axis.Axis.the-variants.{X, Y}
 use Rattle.slots.proofs.LineLaws.{length-slots}
 use Rattle.finish.specs.Finish.{advances, stepBy}
