@@ -1,13 +1,13 @@
 -- Laws of the format: set bits counted at once and one by one, and a field that is there lies in its record. Assumes nothing.
 use mathlib.Core.Path.{_≡_, refl, sym, ap, ap₂, subst, _∙_}
 use Prim.Native.Nat.{ℕ, zero, suc, _+_, _-_, _*_, _/_, _%_, _^_, _≤_, _<_}
-use native.Mathlib.Nat.{add-zero, add-suc, add-comm, one-mul, mod-lt, mod-one}
+use native.Mathlib.Nat.{add-zero, add-suc, add-comm, one-mul, mod-lt, mod-one, lt-of-lt-of-le}
 use native.Mathlib.Numerals.{one-add}
 use native.Mathlib.Omega.{arith}
 use lib.Bits.{bitAnd, and-mask}
-use lib.Count.{ones, onesIn, ones-cat, ones-le}
+use lib.Count.{ones, onesIn, ones-cat}
 use lib.Dec.{lit<}
-use lib.Pow.{pow-pos, mod-pow-add, shl-exact}
+use lib.Pow.{pow-mono, pow-pos, mod-pow-add, shl-exact}
 use Rattle.values.specs.Format.{bitOf, fieldPlace, recordLength, setBelow}
 
 -- ---- counting
@@ -28,13 +28,13 @@ ones-below (suc b) f =
     ∙ ap₂ (λ (x y : ℕ). x + y) (ones-bit (f / 2 ^ b % 2) (mod-lt (f / 2 ^ b) (lit< tt))) (ones-below b f)
     ∙ add-comm (bitOf f b) (setBelow f b)
 
--- the bits that the code's mask leaves are those below b, and no more than b of them are set
+-- the bits that the code's mask leaves are those below b: a number of eight bits
 pub mask : (f b : ℕ) → b < 8 → bitAnd f ((1 * 2 ^ b) % 4294967296 - 1) ≡ f % 2 ^ b
 mask f b h =
     ap (λ (m : ℕ). bitAnd f (m - 1)) (shl-exact {a = 1} 1 b 32 (lit< tt) (omega arith) ∙ one-mul (2 ^ b)) ∙ and-mask f b
 
-pub mask-le : (f b : ℕ) → b < 8 → ones (bitAnd f ((1 * 2 ^ b) % 4294967296 - 1)) ≤ b
-mask-le f b h = subst (λ (m : ℕ). ones m ≤ b) (sym (mask f b h)) (ones-le b (f % 2 ^ b) (mod-lt f (pow-pos b)))
+pub mask-lt : (f b : ℕ) → b < 8 → bitAnd f ((1 * 2 ^ b) % 4294967296 - 1) < 256
+mask-lt f b h = subst (λ (m : ℕ). m < 256) (sym (mask f b h)) (lt-of-lt-of-le (mod-lt f (pow-pos b)) (pow-mono {i = b} {j = 8} (omega arith)))
 
 -- ---- places
 -- more bits, more are set
