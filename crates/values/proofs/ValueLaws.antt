@@ -31,7 +31,7 @@ use Rattle.values.specs.Value.{fieldWorks, fieldsWork, valued, withField
 
 -- ---- one slot of a line
 -- a change that leaves the slot leaves the line
-pub update-none : (i : ℕ) (ss : List Slot) → update i (λ s. s) ss ≡ ss
+update-none : (i : ℕ) (ss : List Slot) → update i (λ s. s) ss ≡ ss
 unfolding update
 update-none i ss = set-getD ss i noSlot
 
@@ -78,7 +78,7 @@ module _ (s u : ℕ) (d : Direction) (r : List ℕ) (f b i : ℕ) (ss : List Slo
   OneField next w = (next ≡ update i (withField s u d r f b) ss) × (w ≡ fieldWorks d r f b)
 
   -- a field that the record lacks changes nothing and has not worked, nor does one that is skipped
-  pub field-absent : (bitOf f b ≡ 1 → ⊥) → OneField ss false
+  field-absent : (bitOf f b ≡ 1 → ⊥) → OneField ss false
   unfolding update
   field-absent ne =
       let e = ne-eqb (bitOf f b) 1 ne in
