@@ -1,13 +1,14 @@
--- Laws of the format: set bits counted at once and one by one, and a field that is there lies in its record. Assumes nothing.
+-- Laws of the format: set bits counted at once and one by one, a field that is there lies in its record, and the next field. Assumes nothing.
 use mathlib.Core.Path.{_≡_, refl, sym, ap, ap₂, subst, _∙_}
 use Prim.Native.Nat.{ℕ, zero, suc, _+_, _-_, _*_, _/_, _%_, _^_, _≤_, _<_}
-use native.Mathlib.Nat.{add-zero, add-suc, add-comm, one-mul, mod-lt, mod-one}
+use native.Mathlib.Decide.{decLt}
+use native.Mathlib.Nat.{add-zero, add-suc, add-comm, zero-add, one-mul, mod-lt, mod-one, lt-of-lt-of-le, pow-suc}
 use native.Mathlib.Numerals.{one-add}
 use native.Mathlib.Omega.{arith}
 use lib.Bits.{bitAnd, and-mask}
-use lib.Count.{ones, onesIn, ones-cat, ones-le}
+use lib.Count.{ones, onesIn, ones-cat, trailingZeros, under}
 use lib.Dec.{lit<}
-use lib.Pow.{pow-pos, mod-pow-add, shl-exact}
+use lib.Pow.{pow-mono, pow-pos, mod-pow-add, shl-exact, shr-le, shr-lt, shr-shr}
 use Rattle.values.specs.Format.{bitOf, fieldPlace, recordLength, setBelow}
 
 -- ---- counting
@@ -28,13 +29,13 @@ ones-below (suc b) f =
     ∙ ap₂ (λ (x y : ℕ). x + y) (ones-bit (f / 2 ^ b % 2) (mod-lt (f / 2 ^ b) (lit< tt))) (ones-below b f)
     ∙ add-comm (bitOf f b) (setBelow f b)
 
--- the bits that the code's mask leaves are those below b, and no more than b of them are set
+-- the bits that the code's mask leaves are those below b: a number of eight bits
 pub mask : (f b : ℕ) → b < 8 → bitAnd f ((1 * 2 ^ b) % 4294967296 - 1) ≡ f % 2 ^ b
 mask f b h =
     ap (λ (m : ℕ). bitAnd f (m - 1)) (shl-exact {a = 1} 1 b 32 (lit< tt) (omega arith) ∙ one-mul (2 ^ b)) ∙ and-mask f b
 
-pub mask-le : (f b : ℕ) → b < 8 → ones (bitAnd f ((1 * 2 ^ b) % 4294967296 - 1)) ≤ b
-mask-le f b h = subst (λ (m : ℕ). ones m ≤ b) (sym (mask f b h)) (ones-le b (f % 2 ^ b) (mod-lt f (pow-pos b)))
+pub mask-lt : (f b : ℕ) → b < 8 → bitAnd f ((1 * 2 ^ b) % 4294967296 - 1) < 256
+mask-lt f b h = subst (λ (m : ℕ). m < 256) (sym (mask f b h)) (lt-of-lt-of-le (mod-lt f (pow-pos b)) (pow-mono {i = b} {j = 8} (omega arith)))
 
 -- ---- places
 -- more bits, more are set
@@ -59,3 +60,33 @@ set-le f (suc b) = omega (arith, set-le f b, mod-lt (f / 2 ^ b) (lit< {m = 0} {n
 
 pub length-small : (f : ℕ) → recordLength f ≤ 16
 length-small f = omega (arith, set-le f 8)
+
+-- ---- from one set bit to the next
+-- the lowest digit is set, or the digit wanted is one of those above it
+digit-at : (n t d : ℕ) → n % 2 ≡ d → (n % 2 ≡ 0 → n / 2 / 2 ^ t % 2 ≡ 1) → n / 2 ^ under d t % 2 ≡ 1
+digit-at n t zero e h = ap (λ (m : ℕ). n / 2 ^ m % 2) (sym (one-add t)) ∙ ap (λ (m : ℕ). m % 2) (sym (shr-shr n 1 t)) ∙ h e
+digit-at n t (suc d) e h = omega (arith, e, mod-lt n (lit< {m = 0} {n = 2} tt))
+
+-- above the trailing zeros of a number that is not 0 stands a set digit
+lowest-set : (k n : ℕ) → 0 < n → n < 2 ^ k → n / 2 ^ trailingZeros k n % 2 ≡ 1
+unfolding trailingZeros
+lowest-set zero n p h = absurd (omega (arith, p, h))
+lowest-set (suc k) n p h = digit-at n (trailingZeros k (n / 2)) (n % 2) refl (λ e. lowest-set k (n / 2) (omega (arith, e, p)) (omega (arith, h, pow-suc 2 k)))
+
+-- a set bit of a format is one of its eight
+set-small : (f b : ℕ) → f < 256 → bitOf f b ≡ 1 → b < 8
+set-small f b l e = go (decLt b 8)
+  where
+    none : 8 ≤ b → f / 2 ^ b < 1
+    none h = shr-lt 0 b (subst (λ (m : ℕ). f < 2 ^ m) (sym (zero-add b)) (lt-of-lt-of-le l (pow-mono {i = 8} {j = b} h)))
+
+    go : Dec (b < 8) → b < 8
+    go (yes h) = h
+    go (no n) = absurd (omega (arith, e, none (omega arith)))
+
+-- the next field from b on: it is there, and one of the eight
+pub next-set : (f b : ℕ) → f < 256 → 0 < f / 2 ^ b → (bitOf f (b + trailingZeros 32 (f / 2 ^ b)) ≡ 1) × (b + trailingZeros 32 (f / 2 ^ b) < 8)
+next-set f b l p =
+    let t = trailingZeros 32 (f / 2 ^ b) in
+    let e : bitOf f (b + t) ≡ 1 = ap (λ (m : ℕ). m % 2) (sym (shr-shr f b t)) ∙ lowest-set 32 (f / 2 ^ b) p (omega (arith, l, shr-le f b)) in
+    (e, set-small f (b + t) l e)

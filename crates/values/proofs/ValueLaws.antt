@@ -1,15 +1,18 @@
--- Laws of applying a record: a field that is absent, skipped or applied, one field more, and a record cut or whole. Assumes nothing.
-use mathlib.Core.Path.{_≡_, refl, sym, ap, _∙_}
+-- Laws of applying a record: a field that is absent, skipped or applied, one field more, fields passed over, and a record cut, whole or without fields. Assumes nothing.
+use mathlib.Core.Path.{_≡_, refl, sym, ap, subst, _∙_}
 use mathlib.Core.Bool.{Bool, true, false, not, _||_}
 use mathlib.Core.List.{List}
-use Prim.Native.Nat.{ℕ, zero, suc, _+_, _≤_, _<_}
+use Prim.Native.Nat.{ℕ, zero, suc, _+_, _-_, _/_, _^_, _≤_, _<_}
 use native.Mathlib.Decide.{decLt}
+use native.Mathlib.Nat.{add-zero}
 use native.Mathlib.Numerals.{add-one}
 use native.Mathlib.Omega.{arith}
 use borrow.Author.Tests.{eq-eqb, ne-eqb, lt-ltb, le-ltb}
+use lib.Count.{trailingZeros, trailing-of-zero, under}
 use lib.Dec.{eqb}
 use lib.IntN.{ℤ, pos, negsuc, natAbs}
 use lib.ListN.{length, set}
+use lib.Pow.{shr-shr}
 use lib.Seq.{set-getD}
 use Rattle.ints.specs.Scale.{scaled}
 use Rattle.ints.specs.Signed.{pattern, signed, val}
@@ -22,13 +25,13 @@ use Rattle.slots.specs.declared.axis.Direction.{Direction}
 use Rattle.slots.specs.declared.fields.Measure.{Measure}
 use Rattle.slots.proofs.LineLaws.{update-both}
 use Rattle.values.specs.Codes.{touchBy}
-use Rattle.values.specs.Format.{bitOf, fieldValue, recordLength}
+use Rattle.values.specs.Format.{bitOf, fieldValue, recordLength, setBelow}
 use Rattle.values.specs.Touch.{applies, skipped, touched, touches}
 use Rattle.values.specs.Value.{fieldWorks, fieldsWork, valued, withField, withFields, worked}
 
 -- ---- one slot of a line
 -- a change that leaves the slot leaves the line
-pub update-none : (i : ℕ) (ss : List Slot) → update i (λ s. s) ss ≡ ss
+update-none : (i : ℕ) (ss : List Slot) → update i (λ s. s) ss ≡ ss
 unfolding update
 update-none i ss = set-getD ss i noSlot
 
@@ -75,7 +78,7 @@ module _ (s u : ℕ) (d : Direction) (r : List ℕ) (f b i : ℕ) (ss : List Slo
   OneField next w = (next ≡ update i (withField s u d r f b) ss) × (w ≡ fieldWorks d r f b)
 
   -- a field that the record lacks changes nothing and has not worked, nor does one that is skipped
-  pub field-absent : (bitOf f b ≡ 1 → ⊥) → OneField ss false
+  field-absent : (bitOf f b ≡ 1 → ⊥) → OneField ss false
   unfolding update
   field-absent ne =
       let e = ne-eqb (bitOf f b) 1 ne in
@@ -126,6 +129,31 @@ module _ (s u : ℕ) (d : Direction) (r : List ℕ) (f i : ℕ) (ss : List Slot)
     o ∙ rw (e .1, g .1),
   )
 
+  -- ---- fields that are not there
+  -- field n is there, or the fields from the next on decide
+  absent-at : (n t b : ℕ) (next : List Slot) (w : Bool) → bitOf f n ≡ b → Fields n next w → (bitOf f n ≡ 0 → Fields (n + 1 + t) next w) → Fields (n + under b t) next w
+  absent-at n t zero next w e g h =
+      let q : n + 1 + t ≡ n + suc t = omega arith in
+      subst (λ (m : ℕ). Fields m next w) q (h e)
+  absent-at n t (suc b) next w e g h = subst (λ (m : ℕ). Fields m next w) (sym (add-zero n)) g
+
+  -- fields whose bits are clear are passed over
+  pub absent-fields : (k n : ℕ) (next : List Slot) (w : Bool) → i < length ss → Fields n next w → Fields (n + trailingZeros k (f / 2 ^ n)) next w
+  unfolding trailingZeros
+  absent-fields zero n next w h e = subst (λ (m : ℕ). Fields m next w) (sym (add-zero n)) e
+  absent-fields (suc k) n next w h e =
+      absent-at n (trailingZeros k (f / 2 ^ n / 2)) (bitOf f n) next w refl e (λ z.
+      subst (λ (m : ℕ). Fields (n + 1 + trailingZeros k m) next w) (sym (shr-shr f n 1)) (absent-fields k (n + 1) next w h
+      (more-fields n next next w false w h e (field-absent s u d r f n i next (λ o. omega (arith, z, o))) (or-kept w false w refl refl))))
+
+  -- none is left where no bit is
+  pub all-fields : (n : ℕ) (next : List Slot) (w : Bool) → i < length ss → n ≤ 8 → f / 2 ^ n ≡ 0 → Fields n next w → Fields 8 next w
+  all-fields n next w h l z e =
+      let t : trailingZeros (8 - n) (f / 2 ^ n) ≡ 8 - n = ap (trailingZeros (8 - n)) z ∙ trailing-of-zero (8 - n) in
+      let q : n + trailingZeros (8 - n) (f / 2 ^ n) ≡ 8 = omega (arith, t, l) in
+      subst (λ (m : ℕ). Fields m next w) q (absent-fields (8 - n) n next w h e)
+
+  -- ---- the record
   -- the line next is ss with the record applied to slot i, and w says whether it worked
   abbrev pub Whole : List Slot → Bool → Type 0
   Whole next w = (next ≡ update i (valued s u d r f) ss) × (w ≡ worked d r f)
@@ -142,3 +170,10 @@ module _ (s u : ℕ) (d : Direction) (r : List ℕ) (f i : ℕ) (ss : List Slot)
   record-whole next w h e =
       let q = le-ltb (length r) (recordLength f) h in
       (simp q (e .0), simp q (e .1))
+
+  -- a format without a bit
+  pub record-none : i < length ss → f ≡ 0 → Whole ss false
+  unfolding setBelow
+  record-none h z =
+      let q : recordLength f ≡ 0 = ap recordLength z in
+      record-whole ss false (omega (arith, q)) (all-fields 0 ss false h (omega arith) (omega (arith, z)) no-fields)

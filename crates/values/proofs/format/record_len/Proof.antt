@@ -5,11 +5,15 @@ use native.Mathlib.Omega.{arith}
 use lib.Count.{ones, ones-le}
 use Rattle.values.specs.Format.{recordLength}
 use Rattle.values.proofs.FormatLaws.{length-small, ones-below}
+use borrow.Author.Needs.{needs}
 use Rattle.values.proofs.format.record_len.Statement.{statement}
 use Rattle.values.proofs.format.record_len.Tie as tie
 
 cast-result : tie.Need-cast-result
-cast-result c = omega (arith, ones-le 8 (c .args .format) (c .pre))
+cast-result c = search needs
+
+cast-result-2 : tie.Need-cast-result-2
+cast-result-2 c = omega (arith, ones-le 8 (c .args .format) (c .pre))
 
 mul-result : tie.Need-mul-result
 mul-result c = omega (arith, ones-le 8 (c .args .format) (c .pre))
@@ -22,4 +26,4 @@ returns c =
     (q, omega (arith, length-small f))
 
 pub record-len-spec : {M : Type 1} → statement M
-record-len-spec = tie.close (tie.spec cast-result mul-result returns)
+record-len-spec = tie.close (tie.spec cast-result cast-result-2 mul-result returns)

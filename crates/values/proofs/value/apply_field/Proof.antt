@@ -1,39 +1,31 @@
--- The tests that led to each return say whether the field is absent, skipped or applied. Assumes nothing.
+-- The table says whether the field is skipped or applied. Assumes nothing.
 use mathlib.Core.Path.{ap, sym, _∙_}
 use native.Mathlib.Omega.{arith}
 use Rattle.ints.specs.Signed.{intAt}
 use Rattle.slots.specs.Line.{slots}
 use Rattle.values.specs.Codes.{touchBy}
 use Rattle.values.proofs.FormatLaws.{field-in}
-use Rattle.values.proofs.ValueLaws.{field-absent, field-applied, field-skipped}
+use Rattle.values.proofs.ValueLaws.{field-applied, field-skipped}
 use borrow.Author.Needs.{needs}
 use Rattle.values.proofs.value.apply_field.Statement.{statement}
 use Rattle.values.proofs.value.apply_field.Tie as tie
 
-shr-if1 : tie.Need-shr-if1
-shr-if1 c = search needs
-
-returns : tie.Need-returns
-returns c =
-    let a = c .before .before .before .args in
-    field-absent (a .s) (a .u) (a .d) (a .r .now) (a .format) (a .field) (a .i) (slots (a .line .now)) (c .if1 .taken)
-
 touch-of-requires : tie.Need-touch-of-requires
 touch-of-requires c κs = search needs
 
-returns-2 : tie.Need-returns-2
-returns-2 c =
-    let a = c .before .before .before .before .before .args in
-    let t = c .before in
-    field-skipped (a .s) (a .u) (a .d) (a .r .now) (a .format) (a .field) (a .i) (slots (a .line .now)) (t .before .if1 .left) (ap touchBy (sym (c .if2 .taken)) ∙ t .touch-of .ensures .0)
+returns : tie.Need-returns
+returns c =
+    let start = c .before .before .before .before in
+    let a = start .args in
+    field-skipped (a .s) (a .u) (a .d) (a .r .now) (a .format) (a .field) (a .i) (slots (a .line .now)) (start .pre .3) (ap touchBy (sym (c .if1 .taken)) ∙ c .before .touch-of .ensures .0)
 
 field-place-requires : tie.Need-field-place-requires
 field-place-requires c κs = search needs
 
 read-i16-requires : tie.Need-read-i16-requires
 read-i16-requires c κs =
-    let a = c .before .before .before .before .before .before .args in
-    omega (arith, field-in (a .format) (a .field) (omega arith) (c .before .before .before .if1 .left), c .field-place .ensures)
+    let start = c .before .before .before .before .before in
+    omega (arith, field-in (start .args .format) (start .args .field) (omega arith) (start .pre .3), c .field-place .ensures)
 
 scale-requires : tie.Need-scale-requires
 scale-requires c κs = search needs
@@ -44,29 +36,28 @@ touch-requires c κs = search needs
 same-length : tie.Need-same-length
 same-length c = search needs
 
-returns-3 : tie.Need-returns-3
-returns-3 c =
-    let a = c .before .before .before .before .before .before .before .before .before .before .before .before .args in
+returns-2 : tie.Need-returns-2
+returns-2 c =
+    let start = c .before .before .before .before .before .before .before .before .before .before .before in
+    let a = start .args in
     let call = c .before .before in
     let scale = call .before .before .scale in
     let v = call .before .before .before .read-i16 in
     let place = call .before .before .before .before .field-place .ensures in
     let t = call .before .before .before .before .before .before .touch-of in
     field-applied (a .s) (a .u) (a .d) (a .r .now) (a .format) (a .field) (a .i) (slots (a .line .now)) (t .result) (v .result) (scale .result) _
-    (call .before .before .before .before .before .before .before .if1 .left) (t .ensures .0) (call .before .before .before .before .before .if2 .left) (t .ensures .1) (omega arith)
+    (start .pre .3) (t .ensures .0) (call .before .before .before .before .before .if1 .left) (t .ensures .1) (omega arith)
     (v .ensures .0 ∙ ap (intAt 2 (a .r .now)) place) (scale .ensures .0) (call .touch .ensures)
 
 pub apply-field-spec : {M : Type 1} → statement M
 apply-field-spec =
     tie.close
     (tie.spec
-    shr-if1
-    returns
     touch-of-requires
-    returns-2
+    returns
     field-place-requires
     read-i16-requires
     scale-requires
     touch-requires
     same-length
-    returns-3)
+    returns-2)

