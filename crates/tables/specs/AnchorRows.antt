@@ -1,4 +1,4 @@
--- Rows of anchor offsets with one column for each mark class: the BaseArray and ComponentRecord tables (OpenType, GPOS). A uint16 count of
+-- Rows of anchor offsets with one column for each mark class: the BaseArray and LigatureAttach tables (OpenType, GPOS). A uint16 count of
 -- rows, then the offsets row by row, from the table's start. Assumes nothing.
 use mathlib.Core.Bool.{_&&_}
 use mathlib.Core.List.{List}

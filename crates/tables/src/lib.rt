@@ -7,4 +7,4 @@ pub mod coverage; // Coverage
 pub mod class_def; // ClassDef
 pub mod anchor; // Anchor
 pub mod mark_array; // MarkArray
-pub mod anchor_rows; // BaseArray, ComponentRecord
+pub mod anchor_rows; // BaseArray, LigatureAttach
