@@ -47,74 +47,68 @@ fn cut(name: &[u8], t: &[u8]) {
     }
 }
 
-pub fn run() {
+// P2, P3 and P4.
+fn worked_sums() {
     adjust_all(
         b"P2",
-        &[0, 1, 0, 10, 0, 5, 255, 246, 0, 20, 0, 1, 0, 1, 0, 7],
+        b"\x00\x01\x00\x0A\x00\x05\xFF\xF6\x00\x14\x00\x01\x00\x01\x00\x07",
         0,
     );
-    adjust_all(b"P3", &[0, 1, 0, 8, 0, 4, 0, 20, 0, 1, 0, 1, 0, 7], 0);
-    adjust_all(b"P4", &[0, 1, 0, 8, 0, 8, 0, 20, 0, 1, 0, 1, 0, 7], 0);
+    adjust_all(
+        b"P3",
+        b"\x00\x01\x00\x08\x00\x04\x00\x14\x00\x01\x00\x01\x00\x07",
+        0,
+    );
+    adjust_all(
+        b"P4",
+        b"\x00\x01\x00\x08\x00\x08\x00\x14\x00\x01\x00\x01\x00\x07",
+        0,
+    );
+}
+
+// Sums past the ends of 32 bits.
+fn ends() {
     adjust_all(
         b"top of 32 bits",
-        &[0, 1, 0, 10, 0, 5, 127, 255, 127, 255, 0, 1, 0, 1, 0, 7],
+        b"\x00\x01\x00\x0A\x00\x05\x7F\xFF\x7F\xFF\x00\x01\x00\x01\x00\x07",
         2147483000,
     );
     adjust_all(
         b"bottom of 32 bits",
-        &[0, 1, 0, 10, 0, 9, 128, 0, 127, 255, 0, 1, 0, 1, 0, 7],
+        b"\x00\x01\x00\x0A\x00\x09\x80\x00\x7F\xFF\x00\x01\x00\x01\x00\x07",
         2147484648,
     );
+}
+
+fn formats() {
     show::text(b"format 0: ");
-    adjust(&[0, 1, 0, 6, 0, 0, 0, 1, 0, 1, 0, 7], 7, 0, 0);
+    adjust(b"\x00\x01\x00\x06\x00\x00\x00\x01\x00\x01\x00\x07", 7, 0, 0);
     show::text(b"format 256: ");
-    adjust(&[0, 1, 0, 6, 1, 0, 0, 1, 0, 1, 0, 7], 7, 0, 0);
+    adjust(b"\x00\x01\x00\x06\x01\x00\x00\x01\x00\x01\x00\x07", 7, 0, 0);
     cut(
         b"format 255",
-        &[
-            0,
-            1,
-            0,
-            8,
-            0,
-            255,
-            0,
-            9,
-            0,
-            1,
-            0,
-            1,
-            0,
-            7,
-            0,
-            0,
-            0,
-            0,
-            0,
-            0,
-            0,
-            0,
-        ],
+        b"\x00\x01\x00\x08\x00\xFF\x00\x09\x00\x01\x00\x01\x00\x07\x00\x00\x00\x00\x00\x00\x00\x00",
     );
-    show::text(b"index below the count: ");
+}
+
+// Format 2 has a record for glyph 7 alone, and covers glyphs 7 and 8.
+fn adjust_by_index(name: &[u8], glyph: u32)
+    requires { ⌜ glyph < 65536 ⌝ }
+{
+    show::text(name);
     adjust(
-        &[0, 2, 0, 10, 0, 4, 0, 1, 0, 20, 0, 1, 0, 2, 0, 7, 0, 8],
-        7,
+        b"\x00\x02\x00\x0A\x00\x04\x00\x01\x00\x14\x00\x01\x00\x02\x00\x07\x00\x08",
+        glyph,
         0,
         0,
     );
-    show::text(b"index at the count: ");
-    adjust(
-        &[0, 2, 0, 10, 0, 4, 0, 1, 0, 20, 0, 1, 0, 2, 0, 7, 0, 8],
-        8,
-        0,
-        0,
-    );
-    show::text(b"glyph not covered: ");
-    adjust(
-        &[0, 2, 0, 10, 0, 4, 0, 1, 0, 20, 0, 1, 0, 2, 0, 7, 0, 8],
-        9,
-        0,
-        0,
-    );
+}
+
+pub fn run() {
+    worked_sums();
+    ends();
+    formats();
+    adjust_by_index(b"index below the count: ", 7);
+    adjust_by_index(b"index at the count: ", 8);
+    adjust_by_index(b"glyph not covered: ", 9);
 }

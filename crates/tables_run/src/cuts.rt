@@ -44,7 +44,7 @@ fn cut(label: &[u8], kind: Kind, s: &[u8]) {
     show::text(b"\n");
 }
 
-pub fn run() {
+fn lists() {
     let s = b"..\x00\x01\x00\x02\x00\x05\x00\x09";
     cut(b"coverage 1 cut: ", Kind::Coverage, s);
     let s = b"..\x00\x02\x00\x01\x00\x05\x00\x09\x00\x00";
@@ -53,10 +53,18 @@ pub fn run() {
     cut(b"class list 1 cut: ", Kind::Classes, s);
     let s = b"..\x00\x02\x00\x01\x00\x05\x00\x09\x00\x01";
     cut(b"class list 2 cut: ", Kind::Classes, s);
+}
+
+fn anchors() {
     let s = b"..\x00\x01\x00\xBD\xFF\x99";
     cut(b"anchor 1 cut: ", Kind::Anchor, s);
     let s = b"..\x00\x02\x01\x42\x03\x84\x00\x0D";
     cut(b"anchor 2 cut: ", Kind::Anchor, s);
     let s = b"..\x00\x03\x01\x17\x05\x15\x00\x0A\x00\x14";
     cut(b"anchor 3 cut: ", Kind::Anchor, s);
+}
+
+pub fn run() {
+    lists();
+    anchors();
 }
