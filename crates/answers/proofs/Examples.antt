@@ -3,6 +3,7 @@ use mathlib.Core.Bool.{true, false}
 use mathlib.Core.List.{[], _∷_, map}
 use mathlib.Core.Path.{_≡_, refl}
 use Rattle.slots.specs.Slot.{noSlot}
+use Rattle.answers.specs.Hazards.{mostHazards}
 use Rattle.answers.specs.Outcome.{lineAfter}
 use Rattle.answers.specs.Said.{break, concat, Said, applied, declined, done, refused, refusalNumber, said, saidDone, unless}
 use Rattle.answers.specs.declared.Kind.the-variants.{Break, Concat}
@@ -18,6 +19,8 @@ pub record Worked : Type 0 where
   pub hazards : said (Applied 2 (Two (record { kind = Concat; start = 0; end = 2 }) (record { kind = Break; start = 0; end = 3 })) true)
       ≡ applied 2 (concat 0 2 ∷ break 0 3 ∷ []) true
   pub backward : said (Declined (One (record { kind = Concat; start = 1; end = 0 }))) ≡ declined (concat 1 0 ∷ [])
+  -- applied: up to two hazards; declined: one or none; refused, done: none
+  pub most : map mostHazards (applied 2 [] true ∷ declined [] ∷ refused 7 ∷ done ∷ []) ≡ (2 ∷ 1 ∷ 0 ∷ 0 ∷ [])
   -- a refusal carries its number alone; starting and finishing say "done"
   pub others : (said (Declined None) ≡ declined []) × (said (Refused Endless) ≡ refused 7) × (saidDone DoneNow ≡ done) × (saidDone (NotDone Slot) ≡ refused 4)
   -- of several tests that hold the first refuses; where none holds, what follows is said
@@ -26,4 +29,4 @@ pub record Worked : Type 0 where
   pub untouched : map (λ (s : Said). lineAfter s (9 ∷ []) (noSlot ∷ [])) (refused 1 ∷ declined [] ∷ declined (concat 0 1 ∷ []) ∷ []) ≡ ((9 ∷ []) ∷ (9 ∷ []) ∷ (9 ∷ []) ∷ [])
 
 pub worked : Worked
-worked = record { numbers = refl; hazards = refl; backward = refl; others = (refl, refl, refl, refl); lowest = (refl, refl); untouched = refl }
+worked = record { numbers = refl; hazards = refl; backward = refl; most = refl; others = (refl, refl, refl, refl); lowest = (refl, refl); untouched = refl }

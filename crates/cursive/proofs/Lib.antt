@@ -5,3 +5,4 @@ pub mod AttachmentLaws
 pub mod DecisionLaws
 pub mod Sound
 pub mod Examples
+pub mod HazardLaws

@@ -6,3 +6,4 @@ pub mod Unique
 pub mod Results
 pub mod WorkedSums
 pub mod Examples
+pub mod Hazards

@@ -1,2 +1,3 @@
 pub mod SinglePosLaws
 pub mod Examples
+pub mod HazardLaws
