@@ -68,14 +68,14 @@ floor-diff a b m h =
     let e : (b * m - suc a) / m ≡ d = ap (λ (x : ℕ). x / m) (cc) ∙ floor-below q (a % m) d m (mod-lt a h) in
     negsuc-diff ((b * m - suc a) / m) ∙ eq-diff 0 (suc ((b * m - suc a) / m)) q b (omega arith))
 
--- the quotient that code computes, of n = v + 2 ^ 31: 2 ^ 32 above the scaled number
-pub scaled-diff : (n s u top : ℕ) → 0 < u → top + 2147483648 * (2 * s) ≡ n * (2 * s) + u + 4294967296 * (2 * u) → scaled (diff n 2147483648) s u ≡ diff (top / (2 * u)) 4294967296
+-- the quotient that code computes, of n = v + 2 ^ 31: 2 ^ 31 above the scaled number
+pub scaled-diff : (n s u top : ℕ) → 0 < u → top + 2147483648 * (2 * s) ≡ n * (2 * s) + u + 2147483648 * (2 * u) → scaled (diff n 2147483648) s u ≡ diff (top / (2 * u)) 2147483648
 unfolding scaled
 scaled-diff n s u top h e =
-    let z : pos 2 *ℤ diff n 2147483648 *ℤ pos s +ℤ pos u ≡ diff top (4294967296 * (2 * u)) = simp (pos-mul-diff, mul-diff, add-diff-pos) (eq-diff _ _ _ _ (omega arith)) in
-    ap (λ w. floorDiv w (2 * u)) z ∙ floor-diff top 4294967296 (2 * u) (omega arith)
+    let z : pos 2 *ℤ diff n 2147483648 *ℤ pos s +ℤ pos u ≡ diff top (2147483648 * (2 * u)) = simp (pos-mul-diff, mul-diff, add-diff-pos) (eq-diff _ _ _ _ (omega arith)) in
+    ap (λ w. floorDiv w (2 * u)) z ∙ floor-diff top 2147483648 (2 * u) (omega arith)
 
--- the quotient is within 2 ^ 27 of 2 ^ 32
-pub quotient-near : (top k : ℕ) → 0 < k → (4294967296 - 134217728) * k ≤ top → top < (4294967296 + 134217729) * k
-    → (4294967296 - 134217728 ≤ top / k) × (top / k ≤ 4294967296 + 134217728)
-quotient-near top k h a b = let t : top / k < 4294967296 + 134217729 = div-lt-iff-lt-mul h .1 b in (le-div-iff-mul-le h .1 a, omega arith)
+-- the quotient is within 2 ^ 27 of 2 ^ 31
+pub quotient-near : (top k : ℕ) → 0 < k → (2147483648 - 134217728) * k ≤ top → top < (2147483648 + 134217729) * k
+    → (2147483648 - 134217728 ≤ top / k) × (top / k ≤ 2147483648 + 134217728)
+quotient-near top k h a b = let t : top / k < 2147483648 + 134217729 = div-lt-iff-lt-mul h .1 b in (le-div-iff-mul-le h .1 a, omega arith)

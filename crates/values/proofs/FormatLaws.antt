@@ -1,5 +1,7 @@
 -- Laws of the format: set bits counted at once and one by one, a field that is there lies in its record, and the next field. Assumes nothing.
 use mathlib.Core.Path.{_≡_, refl, sym, ap, ap₂, subst, _∙_}
+use mathlib.Core.Bool.{Bool, true, false}
+use mathlib.Core.List.{List, []}
 use Prim.Native.Nat.{ℕ, zero, suc, _+_, _-_, _*_, _/_, _%_, _^_, _≤_, _<_}
 use native.Mathlib.Decide.{decLt}
 use native.Mathlib.Nat.{add-zero, add-suc, add-comm, zero-add, one-mul, mod-lt, mod-one, lt-of-lt-of-le, pow-suc}
@@ -7,9 +9,13 @@ use native.Mathlib.Numerals.{one-add}
 use native.Mathlib.Omega.{arith}
 use lib.Bits.{bitAnd, and-mask}
 use lib.Count.{ones, onesIn, ones-cat, trailingZeros, under}
-use lib.Dec.{lit<}
+use lib.Dec.{leb, lit<}
+use lib.ListN.{drop, length, length-drop, take}
 use lib.Pow.{pow-mono, pow-pos, mod-pow-add, shl-exact, shr-le, shr-lt, shr-shr}
-use Rattle.values.specs.Format.{bitOf, fieldPlace, recordLength, setBelow}
+use lib.Seq.{length-take-le}
+use borrow.Author.Tests.{leb-true}
+use Rattle.ints.specs.Choice.{if_then_else_}
+use Rattle.values.specs.Format.{bitOf, fieldPlace, recordAt, recordLength, setBelow, WholeOrEmpty}
 
 -- ---- counting
 -- a bit counts itself
@@ -90,3 +96,11 @@ next-set f b l p =
     let t = trailingZeros 32 (f / 2 ^ b) in
     let e : bitOf f (b + t) ≡ 1 = ap (λ (m : ℕ). m % 2) (sym (shr-shr f b t)) ∙ lowest-set 32 (f / 2 ^ b) p (omega (arith, l, shr-le f b)) in
     (e, set-small f (b + t) l e)
+
+-- a record found in a table is whole, or empty
+pub found-whole : (t : List ℕ) (at f : ℕ) → WholeOrEmpty (recordAt t at f) f
+found-whole t at f = go (leb (at + recordLength f) (length t)) (leb-true (at + recordLength f) (length t))
+  where
+    go : (b : Bool) → (b ≡ true → at + recordLength f ≤ length t) → WholeOrEmpty (if b then take (recordLength f) (drop at t) else []) f
+    go true inside h = let l = inside refl in omega (arith, length-take-le (recordLength f) (drop at t) (omega (arith, length-drop at t)))
+    go false inside h = absurd (omega arith)

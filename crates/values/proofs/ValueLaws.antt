@@ -159,7 +159,7 @@ module _ (s u : ℕ) (d : Direction) (r : List ℕ) (f i : ℕ) (ss : List Slot)
   Whole next w = (next ≡ update i (valued s u d r f) ss) × (w ≡ worked d r f)
 
   -- a cut record does nothing and has not worked; another is its eight fields
-  pub record-cut : length r < recordLength f → Whole ss false
+  record-cut : length r < recordLength f → Whole ss false
   unfolding valued worked update
   record-cut h =
       let e = lt-ltb (length r) (recordLength f) h in
@@ -171,9 +171,18 @@ module _ (s u : ℕ) (d : Direction) (r : List ℕ) (f i : ℕ) (ss : List Slot)
       let q = le-ltb (length r) (recordLength f) h in
       (simp q (e .0), simp q (e .1))
 
-  -- a format without a bit
-  pub record-none : i < length ss → f ≡ 0 → Whole ss false
+  -- no field where no bit is set
+  unset-fields : (n : ℕ) → i < length ss → setBelow f n ≡ 0 → Fields n ss false
   unfolding setBelow
-  record-none h z =
-      let q : recordLength f ≡ 0 = ap recordLength z in
-      record-whole ss false (omega (arith, q)) (all-fields 0 ss false h (omega arith) (omega (arith, z)) no-fields)
+  unset-fields zero h e = no-fields
+  unset-fields (suc n) h e =
+      subst (λ (m : ℕ). Fields m ss false) (add-one n)
+      (more-fields n ss ss false false false h (unset-fields n h (omega arith)) (field-absent s u d r f n i ss (λ o. omega arith)) refl)
+
+  -- an empty record is cut, or its format has no bit
+  pub record-empty : i < length ss → length r ≡ 0 → Whole ss false
+  record-empty h e = go (decLt 0 (recordLength f))
+    where
+      go : Dec (0 < recordLength f) → Whole ss false
+      go (yes l) = record-cut (omega arith)
+      go (no n) = record-whole ss false (omega arith) (unset-fields 8 h (omega arith))

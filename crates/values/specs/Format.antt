@@ -2,7 +2,7 @@
 -- 0x0001 xPlacement, 0x0002 yPlacement, 0x0004 xAdvance, 0x0008 yAdvance, 0x0010 to 0x0080 the four device offsets. Assumes nothing.
 use mathlib.Core.Bool.{Bool}
 use mathlib.Core.List.{List, []}
-use Prim.Native.Nat.{ℕ, zero, suc, _+_, _*_, _/_, _%_, _^_}
+use Prim.Native.Nat.{ℕ, zero, suc, _+_, _*_, _/_, _%_, _^_, _≤_, _<_}
 use lib.Dec.{eqb, leb}
 use lib.IntN.{ℤ}
 use lib.ListN.{drop, length, take}
@@ -36,3 +36,7 @@ fieldValue r f b = intAt 2 r (fieldPlace f b)
 -- the bytes of the record at a place of a table: nothing where it is not wholly inside
 abbrev pub recordAt : List ℕ → ℕ → ℕ → List ℕ
 recordAt t at f = if leb (at + recordLength f) (length t) then take (recordLength f) (drop at t) else []
+
+-- a record that is found like that is whole, or empty
+abbrev pub WholeOrEmpty : List ℕ → ℕ → Type 0
+WholeOrEmpty r f = 0 < length r → recordLength f ≤ length r

@@ -1,7 +1,6 @@
 // Applying a value record to a slot (`apply_value`, `apply_value_fields`).
 use crate::format::field_place;
 use crate::format::next_field;
-use crate::format::record_len;
 use crate::touch::touch_of;
 use ints::big_endian::Signed;
 use ints::big_endian::read_i16;
@@ -19,7 +18,7 @@ ghost use Rattle.ints.specs.Signed.{val};
 ghost use Rattle.slots.specs.Fields.{measure, withMeasure};
 ghost use Rattle.slots.specs.Line.{count, slots, update};
 ghost use Rattle.values.specs.Codes.{touchBy};
-ghost use Rattle.values.specs.Format.{bitOf, recordLength};
+ghost use Rattle.values.specs.Format.{bitOf, recordLength, WholeOrEmpty};
 ghost use Rattle.values.specs.Touch.{touched};
 ghost use Rattle.values.specs.Value.{fieldWorks, valued, withField, worked};
 
@@ -77,8 +76,7 @@ fn apply_field(
     v != 0
 }
 
-// The record r applied to slot i, field by field in bit order: whether it worked. A cut record does nothing and has not worked. An empty format is told by itself
-// first, since a pair's second format mostly is.
+// The record r applied to slot i, field by field in bit order: whether it worked. An empty one, cut or of a format without fields, does nothing and has not worked.
 pub fn apply_value(
     line: &mut [u8],
     i: usize,
@@ -88,13 +86,10 @@ pub fn apply_value(
     s: u32,
     u: u32,
 ) -> bool
-    requires { ⌜ (i < count (now line)) × (format < 256) × InScale s u ⌝ }
+    requires { ⌜ (i < count (now line)) × (format < 256) × InScale s u × WholeOrEmpty (now r) format ⌝ }
     ensures { λ w. ⌜ (slots (now (line .exit)) ≡ update i (valued s u d (now (r .entry)) format) (slots (now (line .entry)))) × (w ≡ worked d (now (r .entry)) format) ⌝ }
 {
-    if format == 0 {
-        return false;
-    }
-    if r.len() < record_len(format) {
+    if r.len() == 0 {
         return false;
     }
     let mut works = false;

@@ -1,12 +1,12 @@
--- The quotient that code computes is the scaled number, 2 ^ 32 higher, and within 2 ^ 27 of that. Assumes nothing.
-use mathlib.Core.Path.{_≡_, refl, sym, ap, _∙_}
-use Prim.Native.Nat.{_+_, _-_, _*_, _/_, _≤_}
+-- The quotient that code computes is the scaled number, 2 ^ 31 higher, and within 2 ^ 27 of that. Assumes nothing.
+use mathlib.Core.Path.{_≡_, sym, ap, _∙_}
+use Prim.Native.Nat.{ℕ, _+_, _-_, _*_, _/_, _≤_}
 use native.Mathlib.Nat.{mul-le-mul-right}
 use native.Mathlib.Omega.{arith}
 use Rattle.ints.specs.Scale.{scaled}
 use Rattle.ints.specs.Signed.{val}
 use Rattle.ints.proofs.Ints.{diff, sub-pos}
-use Rattle.ints.proofs.SaturatingLaws.{lowered, near-lifted}
+use Rattle.ints.proofs.SaturatingLaws.{near-lifted}
 use Rattle.ints.proofs.ScaleLaws.{quotient-near, scaled-diff}
 use Rattle.ints.proofs.SizeLaws.{abs-diff}
 use borrow.Author.Needs.{needs}
@@ -22,6 +22,17 @@ above c = mul-le-mul-right (2 * c .before .args .s) (near c .1)
 
 below : (c : tie.After-lift) → 2147483648 * (2 * c .before .args .s) ≤ (c .lift .result + 65536) * (2 * c .before .args .s)
 below c = mul-le-mul-right (2 * c .before .args .s) (near c .0)
+
+-- the number that is divided, and its quotient
+abbrev top : tie.After-lift → ℕ
+top c = c .lift .result * (2 * c .before .args .s) + c .before .args .u + 2147483648 * (2 * c .before .args .u) - 2147483648 * (2 * c .before .args .s)
+
+quotient : (c : tie.After-lift)
+    → (2147483648 - 134217728 ≤ top c / (2 * c .before .args .u)) × (top c / (2 * c .before .args .u) ≤ 2147483648 + 134217728)
+quotient c =
+    let a = above c in
+    let b = below c in
+    quotient-near (top c) (2 * c .before .args .u) (omega arith) (omega arith) (omega arith)
 
 mul-up : tie.Need-mul-up
 mul-up c = search needs
@@ -50,25 +61,23 @@ mul-top-3 c = search needs
 sub-top : tie.Need-sub-top
 sub-top c = omega (arith, below c)
 
-div-lower : tie.Need-div-lower
-div-lower c = search needs
+div-unlift : tie.Need-div-unlift
+div-unlift c = search needs
 
-lower-requires : tie.Need-lower-requires
-lower-requires c κs = search needs
+unlift-requires : tie.Need-unlift-requires
+unlift-requires c κs = omega (arith, quotient c .1)
 
 returns : tie.Need-returns
 returns c =
     let k = c .before .before .args in
     let n = c .before .lift .result in
-    let a = above (c .before) in
     let b = below (c .before) in
-    let top = n * (2 * k .s) + k .u + 4294967296 * (2 * k .u) - 2147483648 * (2 * k .s) in
-    let q = quotient-near top (2 * k .u) (omega arith) (omega arith) (omega arith) in
-    let e : val (c .lower .result) ≡ diff (top / (2 * k .u)) 4294967296 = c .lower .ensures ∙ lowered (top / (2 * k .u)) (top / (2 * k .u)) 4294967296 (omega arith) (omega arith) refl in (
+    let q = quotient (c .before) in
+    let e : val (c .unlift .result) ≡ diff (top (c .before) / (2 * k .u)) 2147483648 = c .unlift .ensures ∙ sub-pos (top (c .before) / (2 * k .u)) 2147483648 in (
       e
-          ∙ sym (scaled-diff n (k .s) (k .u) top (omega arith) (omega arith))
+          ∙ sym (scaled-diff n (k .s) (k .u) (top (c .before)) (omega arith) (omega arith))
           ∙ ap (λ z. scaled z (k .s) (k .u)) (sym (sub-pos n 2147483648) ∙ c .before .lift .ensures .0),
-      rw e (abs-diff (top / (2 * k .u)) 4294967296 134217728 (omega arith) (omega arith)),
+      rw e (abs-diff (top (c .before) / (2 * k .u)) 2147483648 134217728 (omega arith) (omega arith)),
     )
 
 pub scale-spec : {M : Type 1} → statement M
@@ -84,6 +93,6 @@ scale-spec =
     add-top-2
     mul-top-3
     sub-top
-    div-lower
-    lower-requires
+    div-unlift
+    unlift-requires
     returns)

@@ -28,7 +28,7 @@ apply-value-requires : tie.Need-apply-value-requires
 apply-value-requires c κs =
     let f = c .before .before .before in
     let s = f .before .before .before .before in
-    (s .pre .3, omega (arith, f .read-u16 .ensures .0, good (now (s .args .t)) (s .pre .0) .known1), s .pre .2)
+    (s .pre .3, omega (arith, f .read-u16 .ensures .0, good (now (s .args .t)) (s .pre .0) .known1), s .pre .2, c .record-at .ensures .1)
 
 record-len-requires : tie.Need-record-len-requires
 record-len-requires c κs =
@@ -49,7 +49,7 @@ apply-value-requires-2 : tie.Need-apply-value-requires-2
 apply-value-requires-2 c κs =
     let f = c .before .before .before .before .before .before .before .before in
     let s = f .before .before .before .before .before in
-    (search needs, omega (arith, f .read-u162 .ensures .0, good (now (s .args .t)) (s .pre .0) .known2), s .pre .2)
+    (search needs, omega (arith, f .read-u162 .ensures .0, good (now (s .args .t)) (s .pre .0) .known2), s .pre .2, c .record-at2 .ensures .1)
 
 -- once both are applied: the start, what the slots are, and whether either worked
 abbrev start : tie.After-slice-known3 → tie.Start
@@ -71,7 +71,7 @@ both c =
     let f₁ = f₂ .before in
     let a = start c .args in
     both-applied (a .s) (a .u) (a .d) (now (a .t)) (now (a .table)) (a .at) (a .idx) (a .second) (slots (now (a .line)))
-    (f₁ .read-u16 .ensures .0) (f₂ .read-u162 .ensures .0) (l .record-len .ensures .0) (r₁ .record-at .ensures) (r₂ .record-at2 .ensures)
+    (f₁ .read-u16 .ensures .0) (f₂ .read-u162 .ensures .0) (l .record-len .ensures .0) (r₁ .record-at .ensures .0) (r₂ .record-at2 .ensures .0)
     (v₁ .apply-value .ensures) (v₂ .apply-value2 .ensures)
 
 same-length : tie.Need-same-length

@@ -45,7 +45,7 @@ record-at-requires c κs =
     omega (arith, known (c .before), subst PlaceSmall (m .place .given .1) (m .before .before .place-for .ensures .1))
 
 apply-value-requires : tie.Need-apply-value-requires
-apply-value-requires c κs = omega (arith, known (c .before .before))
+apply-value-requires c κs = (search needs, omega (arith, known (c .before .before)), search needs, c .record-at .ensures .1)
 
 add-t19 : tie.Need-add-t19
 add-t19 c = search needs
@@ -71,7 +71,7 @@ returns-2 c =
     let a = k .before .before .before .before .before .args in
     effect-some (a .s) (a .u) (a .d) (now (a .t)) (a .i) (slots (now (a .line))) (m .place .given .0 .0) (f .read-u16 .result)
     (now (v .before .record-at .result)) (slots (v .apply-value .last .0)) (found k _ (m .place .given .1)) (f .read-u16 .ensures .0)
-    (v .before .record-at .ensures) (v .apply-value .ensures .0)
+    (v .before .record-at .ensures .0) (v .apply-value .ensures .0)
 
 pub adjust-spec : {M : Type 1} → statement M
 adjust-spec =

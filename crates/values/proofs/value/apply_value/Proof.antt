@@ -6,7 +6,7 @@ use native.Mathlib.Omega.{arith}
 use lib.ListN.{length}
 use Rattle.slots.specs.Line.{slots}
 use Rattle.slots.proofs.LineLaws.{length-slots}
-use Rattle.values.proofs.ValueLaws.{Fields, absent-fields, all-fields, more-fields, no-fields, or-kept, or-set, record-cut, record-none, record-whole}
+use Rattle.values.proofs.ValueLaws.{Fields, absent-fields, all-fields, more-fields, no-fields, or-kept, or-set, record-empty, record-whole}
 use Rattle.values.proofs.value.apply_value.Statement.{statement}
 use Rattle.values.proofs.value.apply_value.Tie as tie
 
@@ -19,19 +19,11 @@ abbrev μ-loop : tie.MeasureT-loop
 returns : tie.Need-returns Inv-loop μ-loop
 returns c =
     let a = c .before .before .before .args in
-    record-none (a .s) (a .u) (a .d) (a .r .now) (a .format) (a .i) (slots (a .line .now)) (omega (arith, length-slots (a .line .now))) (c .if1 .taken)
-
-record-len-requires : tie.Need-record-len-requires Inv-loop μ-loop
-record-len-requires c κs = omega arith
-
-returns-2 : tie.Need-returns-2 Inv-loop μ-loop
-returns-2 c =
-    let a = c .before .before .before .before .before .args in
-    record-cut (a .s) (a .u) (a .d) (a .r .now) (a .format) (a .i) (slots (a .line .now)) (omega arith)
+    record-empty (a .s) (a .u) (a .d) (a .r .now) (a .format) (a .i) (slots (a .line .now)) (omega (arith, length-slots (a .line .now))) (c .if1 .taken)
 
 loop-holds : tie.Need-loop-holds Inv-loop μ-loop
 loop-holds c =
-    let a = c .before .before .before .before .before .args in
+    let a = c .before .before .before .args in
     (omega arith, refl, no-fields (a .s) (a .u) (a .d) (a .r .now) (a .format) (a .i) (slots (a .line .now)))
 
 shr-loop : tie.Need-shr-loop Inv-loop μ-loop
@@ -41,7 +33,9 @@ next-field-requires : tie.Need-next-field-requires Inv-loop μ-loop
 next-field-requires c κs = omega arith
 
 apply-field-requires : tie.Need-apply-field-requires Inv-loop μ-loop
-apply-field-requires c κs = omega arith
+apply-field-requires c κs =
+    let whole = c .before .before .before .before .before .before .before .pre .3 (omega arith) in
+    omega arith
 
 add-field : tie.Need-add-field Inv-loop μ-loop
 add-field c = omega arith
@@ -54,29 +48,29 @@ loop-again c =
     let call = c .before .before .before .apply-field in
     let next = c .before .before .before .before .before .next-field in
     let l = c .before .before .before .before .before .before .before in
-    let a = l .before .before .before .before .before .before .args in
+    let a = l .before .before .before .before .args in
     let ss = slots (a .line .now) in
     let now = slots (l .loop .line) in
     let w = l .loop .works in
     let x = call .result in
-    let y = c .if3 .works in
+    let y = c .if2 .works in
     let inside : a .i < length ss = omega (arith, length-slots (a .line .now)) in (
       omega arith,
       call .kept .0 ∙ l .loop .inv .1,
       more-fields (a .s) (a .u) (a .d) (a .r .now) (a .format) (a .i) ss (next .result) now (slots (call .last .0)) w x y inside
           (rw (next .ensures .0) (absent-fields (a .s) (a .u) (a .d) (a .r .now) (a .format) (a .i) ss 32 (l .loop .field) now w inside (l .loop .inv .2))) (call .ensures)
-          (⊎-elim (λ h. or-set w x y (h .0 .taken) (h .1)) (λ h. or-kept w x y (h .0 .left) (h .1)) (c .if3 .came)),
+          (⊎-elim (λ h. or-set w x y (h .0 .taken) (h .1)) (λ h. or-kept w x y (h .0 .left) (h .1)) (c .if2 .came)),
     )
 
 same-length : tie.Need-same-length Inv-loop μ-loop
 same-length c = c .before .loop .inv .1
 
-returns-3 : tie.Need-returns-3 Inv-loop μ-loop
-returns-3 c =
-    let a = c .before .before .before .before .before .before .before .args in
+returns-2 : tie.Need-returns-2 Inv-loop μ-loop
+returns-2 c =
+    let a = c .before .before .before .before .before .args in
     let ss = slots (a .line .now) in
     let l = c .before .loop in
-    record-whole (a .s) (a .u) (a .d) (a .r .now) (a .format) (a .i) ss (slots (l .line)) (l .works) (omega arith)
+    record-whole (a .s) (a .u) (a .d) (a .r .now) (a .format) (a .i) ss (slots (l .line)) (l .works) (c .before .before .before .before .before .pre .3 (omega arith))
     (all-fields (a .s) (a .u) (a .d) (a .r .now) (a .format) (a .i) ss (l .field) (slots (l .line)) (l .works) (omega (arith, length-slots (a .line .now))) (l .inv .0) (c .loop-test .left) (l .inv .2))
 
 pub apply-value-spec : {M : Type 1} → statement M
@@ -86,8 +80,6 @@ apply-value-spec =
     Inv-loop
     μ-loop
     returns
-    record-len-requires
-    returns-2
     loop-holds
     shr-loop
     next-field-requires
@@ -96,4 +88,4 @@ apply-value-spec =
     loop-less
     loop-again
     same-length
-    returns-3)
+    returns-2)
