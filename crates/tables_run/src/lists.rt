@@ -69,6 +69,9 @@ fn glyph_lists() {
     covers(b"coverage 1, glyph 5", s, 4, 5, 6);
     let s = b"..\x00\x01\x00\x03\x00\x05\x00\x09\x01\x2C";
     covers(b"coverage 1, glyphs 5 9 300", s, 5, 9, 300);
+}
+
+fn damaged_glyph_lists() {
     let s = b"..\x00\x01\x00\x02\x00\x09\x00\x09";
     covers(b"coverage 1, glyphs 9 9", s, 9, 9, 9);
     let s = b"..\x00\x01\x00\x02\x00\x09\x00\x05";
@@ -82,6 +85,9 @@ fn range_lists() {
     covers(b"coverage 2, 10 to 12 from 7", s, 10, 12, 13);
     let s = b"..\x00\x02\x00\x01\x00\x00\xFF\xFF\xFF\xFF";
     covers(b"coverage 2, all from 65535", s, 0, 1, 65535);
+}
+
+fn damaged_range_lists() {
     let s = b"..\x00\x02\x00\x02\x00\x05\x00\x09\x00\x00\x00\x09\x00\x0C\x00\x05";
     covers(b"coverage 2, 5 to 9, 9 to 12", s, 9, 9, 9);
     let s = b"..\x00\x02\x00\x01\x00\x09\x00\x05\x00\x00";
@@ -90,17 +96,23 @@ fn range_lists() {
     covers(b"coverage 3", s, 0, 1, 2);
 }
 
-fn class_lists() {
+fn classes_in_order() {
     let s = b"..\x00\x01\x00\x05\x00\x00";
     sorts(b"class list 1, empty", s, 4, 5, 6);
     let s = b"..\x00\x01\x00\x05\x00\x01\x00\x07";
     sorts(b"class list 1, 5 of 7", s, 4, 5, 6);
     let s = b"..\x00\x01\xFF\xFF\x00\x01\x00\x07";
     sorts(b"class list 1, 65535 of 7", s, 0, 65534, 65535);
+}
+
+fn classes_by_ranges() {
     let s = b"..\x00\x02\x00\x00";
     sorts(b"class list 2, empty", s, 0, 1, 65535);
     let s = b"..\x00\x02\x00\x01\x00\x0A\x00\x0C\x00\x03";
     sorts(b"class list 2, 10 to 12 of 3", s, 9, 12, 13);
+}
+
+fn damaged_class_lists() {
     let s = b"..\x00\x02\x00\x02\x00\x05\x00\x09\x00\x01\x00\x09\x00\x0C\x00\x02";
     sorts(b"class list 2, 5 to 9, 9 to 12", s, 9, 9, 9);
     let s = b"..\x00\x00\x00\x00\x00\x00";
@@ -109,6 +121,10 @@ fn class_lists() {
 
 pub fn run() {
     glyph_lists();
+    damaged_glyph_lists();
     range_lists();
-    class_lists();
+    damaged_range_lists();
+    classes_in_order();
+    classes_by_ranges();
+    damaged_class_lists();
 }

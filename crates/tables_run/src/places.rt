@@ -64,6 +64,9 @@ fn anchors() {
         b"anchor 3",
         anchor::anchor_of(b"\x00\x03\x80\x00\x7F\xFF\x00\x00\x00\x00"),
     );
+}
+
+fn unknown_anchors() {
     anchor(b"anchor 0", anchor::anchor_of(b"\x00\x00\x00\xBD\xFF\x99"));
     anchor(
         b"anchor 4",
@@ -76,6 +79,9 @@ fn marks() {
     mark(b"mark 0", t, 0);
     mark(b"mark 1, offset 0", t, 1);
     mark(b"mark 2, past the count", t, 2);
+}
+
+fn cut_marks() {
     mark(b"mark 0, record cut", b"\x00\x01\x00\x03\x00", 0);
     mark(
         b"mark 0, offset past the end",
@@ -91,11 +97,17 @@ fn rows() {
     row(b"row 0, class 2, past the count", t, 0, 2);
     row(b"row 1, class 1", t, 1, 1);
     row(b"row 2, past the count", t, 2, 0);
+}
+
+fn cut_rows() {
     row(b"row 0, table cut", b"\x00\x01\x00\x06\x00", 0, 0);
 }
 
 pub fn run() {
     anchors();
+    unknown_anchors();
     marks();
+    cut_marks();
     rows();
+    cut_rows();
 }
