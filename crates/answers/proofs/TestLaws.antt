@@ -32,3 +32,13 @@ module _ (b : List (Bool × ℕ)) (s : Said) where
 pub clear-first : (t : Bool) (n : ℕ) (a : List (Bool × ℕ)) → unless ((t, n) ∷ a) done ≡ done → (t ≡ false) × (unless a done ≡ done)
 clear-first true n a e = let z : _≡_ {A = ℕ} 0 1 = cc in absurd (omega arith)
 clear-first false n a e = (refl, e)
+
+-- a table that doesn't refuse: no part of it does
+pub clear-parts : (a b : List (Bool × ℕ)) → unless (a ++ b) done ≡ done → (unless a done ≡ done) × (unless b done ≡ done)
+clear-parts [] b e = (refl, e)
+clear-parts (t ∷ a) b e = go (t .0) e (clear-parts a b)
+  where
+    go : (c : Bool) → (if c then refused (t .1) else unless (a ++ b) done) ≡ done → (unless (a ++ b) done ≡ done → (unless a done ≡ done) × (unless b done ≡ done))
+        → ((if c then refused (t .1) else unless a done) ≡ done) × (unless b done ≡ done)
+    go true f rest = let z : _≡_ {A = ℕ} 0 1 = cc in absurd (omega arith)
+    go false f rest = rest f

@@ -1,11 +1,9 @@
 // Cursive attachment.
-use crate::checks::check_line;
-use crate::checks::is_off_scale;
+use crate::checks::check_call;
 use crate::neighbours::is_bad_previous;
 use answers::Answer;
 use answers::Done;
 use answers::Neighbour;
-use answers::Refusal;
 use slots::axis::direction_of;
 ghost use Rattle.gpos.specs.Cursive.{Cursived};
 
@@ -23,16 +21,12 @@ pub fn cursive(
 ) -> Answer
     ensures { λ r. ⌜ Cursived (now (line .entry)) (now (subtable .entry)) direction s u index previous flag r (now (line .exit)) ⌝ }
 {
-    let checked = check_line(line, direction, is_off_scale(s, u));
+    let misplaced = is_bad_previous(slots::fields::slot_count(line), index, previous);
+    let damaged = !cursive::subtable::is_good(subtable);
+    let checked = check_call(line, direction, s, u, misplaced, damaged);
     match checked {
         Done::Refused(r) => Answer::Refused(r),
         Done::Done => {
-            if is_bad_previous(slots::fields::slot_count(line), index, previous) {
-                return Answer::Refused(Refusal::Index);
-            }
-            if !cursive::subtable::is_good(subtable) {
-                return Answer::Refused(Refusal::Subtable);
-            }
             cursive::attachment::attach(
                 line,
                 subtable,

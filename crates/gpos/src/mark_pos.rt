@@ -1,9 +1,7 @@
 // Mark attachment, to a base or to a ligature.
-use crate::checks::check_line;
-use crate::checks::is_off_scale;
+use crate::checks::check_call;
 use answers::Answer;
 use answers::Done;
-use answers::Refusal;
 use marks::subtable::Kind;
 use slots::axis::direction_of;
 ghost use Rattle.marks.specs.declared.subtable.Kind.the-variants.{Base, Ligature};
@@ -21,16 +19,12 @@ fn mark(
 ) -> Answer
     ensures { λ r. ⌜ Marked kind (now (line .entry)) (now (subtable .entry)) direction s u index r (now (line .exit)) ⌝ }
 {
-    let checked = check_line(line, direction, is_off_scale(s, u));
+    let misplaced = slots::fields::slot_count(line) <= index;
+    let damaged = !marks::subtable::is_good(subtable);
+    let checked = check_call(line, direction, s, u, misplaced, damaged);
     match checked {
         Done::Refused(r) => Answer::Refused(r),
         Done::Done => {
-            if slots::fields::slot_count(line) <= index {
-                return Answer::Refused(Refusal::Index);
-            }
-            if !marks::subtable::is_good(subtable) {
-                return Answer::Refused(Refusal::Subtable);
-            }
             marks::attachment::attach(line, subtable, kind, direction_of(direction), s, u, index)
         }
     }

@@ -1,11 +1,9 @@
 // Pair adjustment.
-use crate::checks::check_line;
-use crate::checks::is_off_scale;
+use crate::checks::check_call;
 use crate::neighbours::is_bad_second;
 use answers::Answer;
 use answers::Done;
 use answers::Neighbour;
-use answers::Refusal;
 use slots::axis::direction_of;
 ghost use Rattle.gpos.specs.Pair.{Paired};
 
@@ -21,16 +19,12 @@ pub fn pair(
 ) -> Answer
     ensures { λ r. ⌜ Paired (now (line .entry)) (now (subtable .entry)) direction s u index second r (now (line .exit)) ⌝ }
 {
-    let checked = check_line(line, direction, is_off_scale(s, u));
+    let misplaced = is_bad_second(slots::fields::slot_count(line), index, second);
+    let damaged = !pair::subtable::is_good(subtable);
+    let checked = check_call(line, direction, s, u, misplaced, damaged);
     match checked {
         Done::Refused(r) => Answer::Refused(r),
         Done::Done => {
-            if is_bad_second(slots::fields::slot_count(line), index, second) {
-                return Answer::Refused(Refusal::Index);
-            }
-            if !pair::subtable::is_good(subtable) {
-                return Answer::Refused(Refusal::Subtable);
-            }
             pair::adjustment::adjust_pair(
                 line,
                 subtable,

@@ -1,9 +1,7 @@
 // Single adjustment.
-use crate::checks::check_line;
-use crate::checks::is_off_scale;
+use crate::checks::check_call;
 use answers::Answer;
 use answers::Done;
-use answers::Refusal;
 use slots::axis::direction_of;
 ghost use Rattle.gpos.specs.Single.{Singled};
 
@@ -18,16 +16,12 @@ pub fn single(
 ) -> Answer
     ensures { λ r. ⌜ Singled (now (line .entry)) (now (subtable .entry)) direction s u index r (now (line .exit)) ⌝ }
 {
-    let checked = check_line(line, direction, is_off_scale(s, u));
+    let misplaced = slots::fields::slot_count(line) <= index;
+    let damaged = !single::subtable::is_good(subtable);
+    let checked = check_call(line, direction, s, u, misplaced, damaged);
     match checked {
         Done::Refused(r) => Answer::Refused(r),
         Done::Done => {
-            if slots::fields::slot_count(line) <= index {
-                return Answer::Refused(Refusal::Index);
-            }
-            if !single::subtable::is_good(subtable) {
-                return Answer::Refused(Refusal::Subtable);
-            }
             single::adjust::adjust(line, subtable, direction_of(direction), s, u, index)
         }
     }

@@ -1,39 +1,44 @@
 -- A refusal is that of the first test that holds; else the core's effect decides the line. Assumes nothing.
-use mathlib.Core.Path.{_≡_, sym, ap, _∙_, subst}
+use mathlib.Core.Path.{_≡_, sym, ap, ap₂, _∙_, subst}
 use mathlib.Core.Bool.{Bool, not}
+use Prim.Native.Nat.{ℕ}
 use borrow.Author.Tests.{not-false}
-use Rattle.slots.specs.Axis.{directionOf}
 use Rattle.slots.specs.Line.{count, slots}
 use Rattle.slots.specs.declared.axis.Direction.{Direction}
-use Rattle.answers.specs.Said.{done, said, saidDone, unless}
-use Rattle.answers.specs.Outcome.{Effect}
-use Prim.Native.Nat.{ℕ}
 use Rattle.cursive.specs.Attachment.{planned}
 use Rattle.cursive.specs.CursivePos.{cursiveGood, planOf, planSaid}
+use Rattle.answers.specs.Said.{done, said, saidDone, unless}
+use Rattle.answers.specs.Outcome.{Effect}
+use Rattle.gpos.specs.Cursive.{cursiveSlots}
 use Rattle.gpos.specs.Neighbours.{badBefore, badPrevious}
+use Rattle.gpos.specs.Tests.{applyingTests}
+use Rattle.gpos.proofs.ApplyingLaws.{Allowed, allowed, by-core, refused-by}
 use Rattle.gpos.proofs.NeighbourLaws.{before, index-in}
-use Rattle.gpos.specs.Tests.{lineTests, offScale}
-use Rattle.gpos.proofs.ApplyingLaws.{by-core, refused-index, refused-line, refused-subtable}
-use Rattle.gpos.proofs.TestLaws.{clear, in-scale}
 use borrow.Author.Needs.{needs}
 use Rattle.gpos.proofs.cursive_pos.cursive.Statement.{statement}
 use Rattle.gpos.proofs.cursive_pos.cursive.Tie as tie
 
--- what the checks of the line said, of the scale itself
-tests : (c : tie.After-check-line) → saidDone (c .check-line .result) ≡ unless (lineTests (c .before .before .before .before .before .args .line .now) (c .before .before .before .before .before .args .direction) (offScale (c .before .before .before .before .before .args .s) (c .before .before .before .before .before .args .u))) done
-tests c = c .check-line .ensures ∙ ap (λ (x : Bool). unless (lineTests (c .before .before .before .before .before .args .line .now) (c .before .before .before .before .before .args .direction) x) done) (c .before .is-off-scale .ensures)
+abbrev start : tie.After-check-call → tie.Start
+start c = c .before .before .before .before .before .before .before .before
 
-is-off-scale-requires : tie.Need-is-off-scale-requires
-is-off-scale-requires c κs = search needs
+-- the tests of the index and of the subtable, as the definition has them
+abbrev misplaced : tie.Start → Bool
+misplaced s = badPrevious (count (s .args .line .now)) (s .args .index) (s .args .previous)
 
-check-line-requires : tie.Need-check-line-requires
-check-line-requires c κs = search needs
+abbrev damaged : tie.Start → Bool
+damaged s = not (cursiveGood (s .args .subtable .now))
 
-enum-known-checked : tie.Need-enum-known-checked
-enum-known-checked c = search needs
-
-enum-told : tie.Need-enum-told
-enum-told c = search needs
+-- what the checks said
+tested : (c : tie.After-check-call)
+    → let a = start c .args in
+    saidDone (c .check-call .result) ≡ unless (applyingTests (a .line .now) (a .direction) (a .s) (a .u) (misplaced (start c)) (damaged (start c))) done
+tested c =
+    let a = start c .args in
+    let good = c .before .before in
+    let place = good .before in
+    c .check-call .ensures
+    ∙ ap₂ (λ (x y : Bool). unless (applyingTests (a .line .now) (a .direction) (a .s) (a .u) x y) done)
+    (place .is-bad-previous .ensures ∙ ap (λ (n : ℕ). badPrevious n (a .index) (a .previous)) (place .before .slot-count .ensures)) (ap not (good .is-good .ensures))
 
 slot-count-requires : tie.Need-slot-count-requires
 slot-count-requires c κs = search needs
@@ -41,88 +46,81 @@ slot-count-requires c κs = search needs
 is-bad-previous-requires : tie.Need-is-bad-previous-requires
 is-bad-previous-requires c κs = search needs
 
-same-length : tie.Need-same-length
-same-length c = search needs
-
-returns : tie.Need-returns
-returns c =
-    let a = c .before .before .before .before .before .before .before .before .before .before .before .args in
-    let l = a .line .now in
-    let t = a .subtable .now in
-    refused-index l (a .direction) (a .s) (a .u) (badPrevious (count l) (a .index) (a .previous)) (not (cursiveGood t)) (planSaid (a .index) (planOf t (slots l) (a .index) (a .previous))) (planned (a .s) (a .u) (directionOf (a .direction)) (a .flag) (a .index) (planOf t (slots l) (a .index) (a .previous)) (slots l))
-    (sym (tests (c .before .before .before .before .before .before)) ∙ ap saidDone (c .before .before .before .before .enum-told .given .1)) (sym (c .before .is-bad-previous .ensures ∙ ap (λ (n : ℕ). badPrevious n (a .index) (a .previous)) (c .before .before .slot-count .ensures)) ∙ c .if1 .taken)
-
 is-good-requires : tie.Need-is-good-requires
 is-good-requires c κs = search needs
 
-same-length-2 : tie.Need-same-length-2
-same-length-2 c = search needs
+check-call-requires : tie.Need-check-call-requires
+check-call-requires c κs = search needs
 
-returns-2 : tie.Need-returns-2
-returns-2 c =
-    let a = c .before .before .before .before .before .before .before .before .before .before .before .before .before .args in
-    let l = a .line .now in
-    let t = a .subtable .now in
-    refused-subtable l (a .direction) (a .s) (a .u) (badPrevious (count l) (a .index) (a .previous)) (not (cursiveGood t)) (planSaid (a .index) (planOf t (slots l) (a .index) (a .previous))) (planned (a .s) (a .u) (directionOf (a .direction)) (a .flag) (a .index) (planOf t (slots l) (a .index) (a .previous)) (slots l))
-    (sym (tests (c .before .before .before .before .before .before .before .before)) ∙ ap saidDone (c .before .before .before .before .before .before .enum-told .given .1)) (sym (c .before .before .before .is-bad-previous .ensures ∙ ap (λ (n : ℕ). badPrevious n (a .index) (a .previous)) (c .before .before .before .before .slot-count .ensures)) ∙ c .before .before .if1 .left) (ap not (sym (c .before .is-good .ensures)) ∙ c .if2 .taken)
+enum-known-checked : tie.Need-enum-known-checked
+enum-known-checked c = search needs
+
+enum-told : tie.Need-enum-told
+enum-told c = search needs
+
+-- where they don't refuse
+passed : (c : tie.After-enum-told)
+    → let s = start (c .before .before) in
+    let a = s .args in
+    unless (applyingTests (a .line .now) (a .direction) (a .s) (a .u) (misplaced s) (damaged s)) done ≡ done
+passed c = sym (tested (c .before .before)) ∙ ap saidDone (c .enum-told .given .1)
 
 direction-of-requires : tie.Need-direction-of-requires
 direction-of-requires c κs = search needs
 
 attach-requires : tie.Need-attach-requires
 attach-requires c κs =
-    let a = c .before .before .before .before .before .before .before .before .before .before .before .before .before .before .before .args in
+    let told = c .before .before in
+    let s = start (told .before .before) in
+    let a = s .args in
+    let ok = allowed (a .line .now) (a .direction) (a .s) (a .u) (misplaced s) (damaged s) (passed told) in
+    let l = a .line .now in
+    let place = index-in (count l) (a .index) (badBefore (count l) (a .index) (a .previous)) (ok .index) in
+    (place .0, before (count l) (a .index) (a .previous) (place .1), ok .scale, not-false _ (ok .subtable))
+
+same-length : tie.Need-same-length
+same-length c = search needs
+
+returns : tie.Need-returns
+returns c =
+    let k = c .before .before .before in
+    let s = start k in
+    let a = s .args in
     let l = a .line .now in
     let t = a .subtable .now in
-    let ok : unless (lineTests l (a .direction) (offScale (a .s) (a .u))) done ≡ done = sym (tests (c .before .before .before .before .before .before .before .before .before .before)) ∙ ap saidDone (c .before .before .before .before .before .before .before .before .enum-told .given .1) in
-    let scale = in-scale (a .s) (a .u) (clear l (a .direction) (offScale (a .s) (a .u)) ok .number) in
-    let good = sym (c .before .before .before .is-good .ensures) ∙ not-false _ (c .before .before .if2 .left) in
-    let place = index-in (count l) (a .index) (badBefore (count l) (a .index) (a .previous)) (sym (c .before .before .before .before .before .is-bad-previous .ensures ∙ ap (λ (n : ℕ). badPrevious n (a .index) (a .previous)) (c .before .before .before .before .before .before .slot-count .ensures)) ∙ c .before .before .before .before .if1 .left) in
-    (place .0, before (count l) (a .index) (a .previous) (place .1), scale, good)
+    refused-by l (a .direction) (a .s) (a .u) (misplaced s) (damaged s) (planSaid (a .index) (planOf t (slots l) (a .index) (a .previous))) (cursiveSlots l t (a .direction) (a .s) (a .u) (a .index) (a .previous) (a .flag)) _
+    (sym (tested k) ∙ ap saidDone (c .before .checked .given .1))
 
-same-length-3 : tie.Need-same-length-3
-same-length-3 c = search needs
+same-length-2 : tie.Need-same-length-2
+same-length-2 c = search needs
 
-returns-3 : tie.Need-returns-3
-returns-3 c =
-    let a = c .before .before .before .before .before .before .before .before .args in
-    let l = a .line .now in
-    let t = a .subtable .now in
-    refused-line l (a .direction) (a .s) (a .u) (badPrevious (count l) (a .index) (a .previous)) (not (cursiveGood t)) (planSaid (a .index) (planOf t (slots l) (a .index) (a .previous))) (planned (a .s) (a .u) (directionOf (a .direction)) (a .flag) (a .index) (planOf t (slots l) (a .index) (a .previous)) (slots l))
-    _ (sym (tests (c .before .before .before)) ∙ ap saidDone (c .before .checked .given .1))
-
-same-length-4 : tie.Need-same-length-4
-same-length-4 c = search needs
-
-returns-4 : tie.Need-returns-4
-returns-4 c =
-    let a = c .before .before .before .before .before .before .before .before .before .before .before .before .before .before .before .before .before .before .args in
-    let l = a .line .now in
-    let t = a .subtable .now in
+returns-2 : tie.Need-returns-2
+returns-2 c =
     let call = c .before .before .attach in
-    by-core l (a .direction) (a .s) (a .u) (badPrevious (count l) (a .index) (a .previous)) (not (cursiveGood t)) (planSaid (a .index) (planOf t (slots l) (a .index) (a .previous))) (planned (a .s) (a .u) (directionOf (a .direction)) (a .flag) (a .index) (planOf t (slots l) (a .index) (a .previous)) (slots l))
-    (sym (tests (c .before .before .before .before .before .before .before .before .before .before .before .before .before)) ∙ ap saidDone (c .before .before .before .before .before .before .before .before .before .before .before .enum-told .given .1)) (call .last .0) (said (call .result)) (sym (c .before .before .before .before .before .before .before .before .is-bad-previous .ensures ∙ ap (λ (n : ℕ). badPrevious n (a .index) (a .previous)) (c .before .before .before .before .before .before .before .before .before .slot-count .ensures)) ∙ c .before .before .before .before .before .before .before .if1 .left) (ap not (sym (c .before .before .before .before .before .before .is-good .ensures)) ∙ c .before .before .before .before .before .if2 .left)
-    (λ k. c .before .before .before .before .before .before .before .before .before .before .before .before .before .before .before .before .before .slice-known .given k .fits) (λ k. c .slice-known2 .given k .fits) (call .kept .0)
-    (subst (λ (d : Direction). Effect (slots l) (planSaid (a .index) (planOf t (slots l) (a .index) (a .previous))) (planned (a .s) (a .u) d (a .flag) (a .index) (planOf t (slots l) (a .index) (a .previous)) (slots l)) (said (call .result)) (slots (call .last .0))) (c .before .before .before .direction-of .ensures) (call .ensures))
+    let told = c .before .before .before .before .before in
+    let s = start (told .before .before) in
+    let a = s .args in
+    let l = a .line .now in
+    let t = a .subtable .now in
+    by-core l (a .direction) (a .s) (a .u) (misplaced s) (damaged s) (planSaid (a .index) (planOf t (slots l) (a .index) (a .previous))) (cursiveSlots l t (a .direction) (a .s) (a .u) (a .index) (a .previous) (a .flag))
+    (passed told) (call .last .0) (said (call .result)) (λ k. told .before .before .before .before .before .before .before .before .before .slice-known .given k .fits)
+    (λ k. c .slice-known2 .given k .fits) (call .kept .0)
+    (subst (λ (d : Direction). Effect (slots l) (planSaid (a .index) (planOf t (slots l) (a .index) (a .previous))) (planned (a .s) (a .u) d (a .flag) (a .index) (planOf t (slots l) (a .index) (a .previous)) (slots l)) (said (call .result)) (slots (call .last .0)))
+    (c .before .before .before .direction-of .ensures) (call .ensures))
 
 pub cursive-spec : {M : Type 1} → statement M
 cursive-spec =
     tie.close
     (tie.spec
-    is-off-scale-requires
-    check-line-requires
-    enum-known-checked
-    enum-told
     slot-count-requires
     is-bad-previous-requires
-    same-length
-    returns
     is-good-requires
-    same-length-2
-    returns-2
+    check-call-requires
+    enum-known-checked
+    enum-told
     direction-of-requires
     attach-requires
-    same-length-3
-    returns-3
-    same-length-4
-    returns-4)
+    same-length
+    returns
+    same-length-2
+    returns-2)

@@ -1,40 +1,46 @@
 -- A refusal is that of the first test that holds; else the core's effect decides the line. Assumes nothing.
-use mathlib.Core.Path.{_≡_, sym, ap, _∙_, subst}
+use mathlib.Core.Path.{_≡_, sym, ap, ap₂, _∙_, subst}
 use mathlib.Core.Bool.{Bool, not}
+use Prim.Native.Nat.{ℕ}
 use borrow.Author.Tests.{not-false}
 use Rattle.slots.specs.Axis.{directionOf}
 use Rattle.slots.specs.Line.{count, slots}
 use Rattle.slots.specs.declared.axis.Direction.{Direction}
-use Rattle.answers.specs.Said.{done, said, saidDone, unless}
-use Rattle.answers.specs.Outcome.{Effect}
-use Prim.Native.Nat.{ℕ}
 use Rattle.pair.specs.Adjustment.{planned, planSaid}
 use Rattle.pair.specs.PairPos.{pairGood}
 use Rattle.pair.specs.Plan.{planOf}
+use Rattle.answers.specs.Said.{done, said, saidDone, unless}
+use Rattle.answers.specs.Outcome.{Effect}
+use Rattle.gpos.specs.Pair.{pairSlots}
 use Rattle.gpos.specs.Neighbours.{badAfter, badSecond}
+use Rattle.gpos.specs.Tests.{applyingTests}
+use Rattle.gpos.proofs.ApplyingLaws.{Allowed, allowed, by-core, refused-by}
 use Rattle.gpos.proofs.NeighbourLaws.{after, index-in}
-use Rattle.gpos.specs.Tests.{lineTests, offScale}
-use Rattle.gpos.proofs.ApplyingLaws.{by-core, refused-index, refused-line, refused-subtable}
-use Rattle.gpos.proofs.TestLaws.{clear, in-scale}
 use borrow.Author.Needs.{needs}
 use Rattle.gpos.proofs.pair_pos.pair.Statement.{statement}
 use Rattle.gpos.proofs.pair_pos.pair.Tie as tie
 
--- what the checks of the line said, of the scale itself
-tests : (c : tie.After-check-line) → saidDone (c .check-line .result) ≡ unless (lineTests (c .before .before .before .before .before .args .line .now) (c .before .before .before .before .before .args .direction) (offScale (c .before .before .before .before .before .args .s) (c .before .before .before .before .before .args .u))) done
-tests c = c .check-line .ensures ∙ ap (λ (x : Bool). unless (lineTests (c .before .before .before .before .before .args .line .now) (c .before .before .before .before .before .args .direction) x) done) (c .before .is-off-scale .ensures)
+abbrev start : tie.After-check-call → tie.Start
+start c = c .before .before .before .before .before .before .before .before
 
-is-off-scale-requires : tie.Need-is-off-scale-requires
-is-off-scale-requires c κs = search needs
+-- the tests of the index and of the subtable, as the definition has them
+abbrev misplaced : tie.Start → Bool
+misplaced s = badSecond (count (s .args .line .now)) (s .args .index) (s .args .second)
 
-check-line-requires : tie.Need-check-line-requires
-check-line-requires c κs = search needs
+abbrev damaged : tie.Start → Bool
+damaged s = not (pairGood (s .args .subtable .now))
 
-enum-known-checked : tie.Need-enum-known-checked
-enum-known-checked c = search needs
-
-enum-told : tie.Need-enum-told
-enum-told c = search needs
+-- what the checks said
+tested : (c : tie.After-check-call)
+    → let a = start c .args in
+    saidDone (c .check-call .result) ≡ unless (applyingTests (a .line .now) (a .direction) (a .s) (a .u) (misplaced (start c)) (damaged (start c))) done
+tested c =
+    let a = start c .args in
+    let good = c .before .before in
+    let place = good .before in
+    c .check-call .ensures
+    ∙ ap₂ (λ (x y : Bool). unless (applyingTests (a .line .now) (a .direction) (a .s) (a .u) x y) done)
+    (place .is-bad-second .ensures ∙ ap (λ (n : ℕ). badSecond n (a .index) (a .second)) (place .before .slot-count .ensures)) (ap not (good .is-good .ensures))
 
 slot-count-requires : tie.Need-slot-count-requires
 slot-count-requires c κs = search needs
@@ -42,88 +48,81 @@ slot-count-requires c κs = search needs
 is-bad-second-requires : tie.Need-is-bad-second-requires
 is-bad-second-requires c κs = search needs
 
-same-length : tie.Need-same-length
-same-length c = search needs
-
-returns : tie.Need-returns
-returns c =
-    let a = c .before .before .before .before .before .before .before .before .before .before .before .args in
-    let l = a .line .now in
-    let t = a .subtable .now in
-    refused-index l (a .direction) (a .s) (a .u) (badSecond (count l) (a .index) (a .second)) (not (pairGood t)) (planSaid (directionOf (a .direction)) t (a .index) (planOf t (slots l) (a .index) (a .second))) (planned (a .s) (a .u) (directionOf (a .direction)) t (a .index) (planOf t (slots l) (a .index) (a .second)) (slots l))
-    (sym (tests (c .before .before .before .before .before .before)) ∙ ap saidDone (c .before .before .before .before .enum-told .given .1)) (sym (c .before .is-bad-second .ensures ∙ ap (λ (n : ℕ). badSecond n (a .index) (a .second)) (c .before .before .slot-count .ensures)) ∙ c .if1 .taken)
-
 is-good-requires : tie.Need-is-good-requires
 is-good-requires c κs = search needs
 
-same-length-2 : tie.Need-same-length-2
-same-length-2 c = search needs
+check-call-requires : tie.Need-check-call-requires
+check-call-requires c κs = search needs
 
-returns-2 : tie.Need-returns-2
-returns-2 c =
-    let a = c .before .before .before .before .before .before .before .before .before .before .before .before .before .args in
-    let l = a .line .now in
-    let t = a .subtable .now in
-    refused-subtable l (a .direction) (a .s) (a .u) (badSecond (count l) (a .index) (a .second)) (not (pairGood t)) (planSaid (directionOf (a .direction)) t (a .index) (planOf t (slots l) (a .index) (a .second))) (planned (a .s) (a .u) (directionOf (a .direction)) t (a .index) (planOf t (slots l) (a .index) (a .second)) (slots l))
-    (sym (tests (c .before .before .before .before .before .before .before .before)) ∙ ap saidDone (c .before .before .before .before .before .before .enum-told .given .1)) (sym (c .before .before .before .is-bad-second .ensures ∙ ap (λ (n : ℕ). badSecond n (a .index) (a .second)) (c .before .before .before .before .slot-count .ensures)) ∙ c .before .before .if1 .left) (ap not (sym (c .before .is-good .ensures)) ∙ c .if2 .taken)
+enum-known-checked : tie.Need-enum-known-checked
+enum-known-checked c = search needs
+
+enum-told : tie.Need-enum-told
+enum-told c = search needs
+
+-- where they don't refuse
+passed : (c : tie.After-enum-told)
+    → let s = start (c .before .before) in
+    let a = s .args in
+    unless (applyingTests (a .line .now) (a .direction) (a .s) (a .u) (misplaced s) (damaged s)) done ≡ done
+passed c = sym (tested (c .before .before)) ∙ ap saidDone (c .enum-told .given .1)
 
 direction-of-requires : tie.Need-direction-of-requires
 direction-of-requires c κs = search needs
 
 adjust-pair-requires : tie.Need-adjust-pair-requires
 adjust-pair-requires c κs =
-    let a = c .before .before .before .before .before .before .before .before .before .before .before .before .before .before .before .args in
+    let told = c .before .before in
+    let s = start (told .before .before) in
+    let a = s .args in
+    let ok = allowed (a .line .now) (a .direction) (a .s) (a .u) (misplaced s) (damaged s) (passed told) in
+    let l = a .line .now in
+    let place = index-in (count l) (a .index) (badAfter (count l) (a .index) (a .second)) (ok .index) in
+    (not-false _ (ok .subtable), ok .scale, place .0, after (count l) (a .index) (a .second) (place .1))
+
+same-length : tie.Need-same-length
+same-length c = search needs
+
+returns : tie.Need-returns
+returns c =
+    let k = c .before .before .before in
+    let s = start k in
+    let a = s .args in
     let l = a .line .now in
     let t = a .subtable .now in
-    let ok : unless (lineTests l (a .direction) (offScale (a .s) (a .u))) done ≡ done = sym (tests (c .before .before .before .before .before .before .before .before .before .before)) ∙ ap saidDone (c .before .before .before .before .before .before .before .before .enum-told .given .1) in
-    let scale = in-scale (a .s) (a .u) (clear l (a .direction) (offScale (a .s) (a .u)) ok .number) in
-    let good = sym (c .before .before .before .is-good .ensures) ∙ not-false _ (c .before .before .if2 .left) in
-    let place = index-in (count l) (a .index) (badAfter (count l) (a .index) (a .second)) (sym (c .before .before .before .before .before .is-bad-second .ensures ∙ ap (λ (n : ℕ). badSecond n (a .index) (a .second)) (c .before .before .before .before .before .before .slot-count .ensures)) ∙ c .before .before .before .before .if1 .left) in
-    (good, scale, place .0, after (count l) (a .index) (a .second) (place .1))
+    refused-by l (a .direction) (a .s) (a .u) (misplaced s) (damaged s) (planSaid (directionOf (a .direction)) t (a .index) (planOf t (slots l) (a .index) (a .second))) (pairSlots l t (a .direction) (a .s) (a .u) (a .index) (a .second)) _
+    (sym (tested k) ∙ ap saidDone (c .before .checked .given .1))
 
-same-length-3 : tie.Need-same-length-3
-same-length-3 c = search needs
+same-length-2 : tie.Need-same-length-2
+same-length-2 c = search needs
 
-returns-3 : tie.Need-returns-3
-returns-3 c =
-    let a = c .before .before .before .before .before .before .before .before .args in
-    let l = a .line .now in
-    let t = a .subtable .now in
-    refused-line l (a .direction) (a .s) (a .u) (badSecond (count l) (a .index) (a .second)) (not (pairGood t)) (planSaid (directionOf (a .direction)) t (a .index) (planOf t (slots l) (a .index) (a .second))) (planned (a .s) (a .u) (directionOf (a .direction)) t (a .index) (planOf t (slots l) (a .index) (a .second)) (slots l))
-    _ (sym (tests (c .before .before .before)) ∙ ap saidDone (c .before .checked .given .1))
-
-same-length-4 : tie.Need-same-length-4
-same-length-4 c = search needs
-
-returns-4 : tie.Need-returns-4
-returns-4 c =
-    let a = c .before .before .before .before .before .before .before .before .before .before .before .before .before .before .before .before .before .before .args in
-    let l = a .line .now in
-    let t = a .subtable .now in
+returns-2 : tie.Need-returns-2
+returns-2 c =
     let call = c .before .before .adjust-pair in
-    by-core l (a .direction) (a .s) (a .u) (badSecond (count l) (a .index) (a .second)) (not (pairGood t)) (planSaid (directionOf (a .direction)) t (a .index) (planOf t (slots l) (a .index) (a .second))) (planned (a .s) (a .u) (directionOf (a .direction)) t (a .index) (planOf t (slots l) (a .index) (a .second)) (slots l))
-    (sym (tests (c .before .before .before .before .before .before .before .before .before .before .before .before .before)) ∙ ap saidDone (c .before .before .before .before .before .before .before .before .before .before .before .enum-told .given .1)) (call .last .0) (said (call .result)) (sym (c .before .before .before .before .before .before .before .before .is-bad-second .ensures ∙ ap (λ (n : ℕ). badSecond n (a .index) (a .second)) (c .before .before .before .before .before .before .before .before .before .slot-count .ensures)) ∙ c .before .before .before .before .before .before .before .if1 .left) (ap not (sym (c .before .before .before .before .before .before .is-good .ensures)) ∙ c .before .before .before .before .before .if2 .left)
-    (λ k. c .before .before .before .before .before .before .before .before .before .before .before .before .before .before .before .before .before .slice-known .given k .fits) (λ k. c .slice-known2 .given k .fits) (call .kept .0)
-    (subst (λ (d : Direction). Effect (slots l) (planSaid d t (a .index) (planOf t (slots l) (a .index) (a .second))) (planned (a .s) (a .u) d t (a .index) (planOf t (slots l) (a .index) (a .second)) (slots l)) (said (call .result)) (slots (call .last .0))) (c .before .before .before .direction-of .ensures) (call .ensures))
+    let told = c .before .before .before .before .before in
+    let s = start (told .before .before) in
+    let a = s .args in
+    let l = a .line .now in
+    let t = a .subtable .now in
+    by-core l (a .direction) (a .s) (a .u) (misplaced s) (damaged s) (planSaid (directionOf (a .direction)) t (a .index) (planOf t (slots l) (a .index) (a .second))) (pairSlots l t (a .direction) (a .s) (a .u) (a .index) (a .second))
+    (passed told) (call .last .0) (said (call .result)) (λ k. told .before .before .before .before .before .before .before .before .before .slice-known .given k .fits)
+    (λ k. c .slice-known2 .given k .fits) (call .kept .0)
+    (subst (λ (d : Direction). Effect (slots l) (planSaid d t (a .index) (planOf t (slots l) (a .index) (a .second))) (planned (a .s) (a .u) d t (a .index) (planOf t (slots l) (a .index) (a .second)) (slots l)) (said (call .result)) (slots (call .last .0)))
+    (c .before .before .before .direction-of .ensures) (call .ensures))
 
 pub pair-spec : {M : Type 1} → statement M
 pair-spec =
     tie.close
     (tie.spec
-    is-off-scale-requires
-    check-line-requires
-    enum-known-checked
-    enum-told
     slot-count-requires
     is-bad-second-requires
-    same-length
-    returns
     is-good-requires
-    same-length-2
-    returns-2
+    check-call-requires
+    enum-known-checked
+    enum-told
     direction-of-requires
     adjust-pair-requires
-    same-length-3
-    returns-3
-    same-length-4
-    returns-4)
+    same-length
+    returns
+    same-length-2
+    returns-2)

@@ -1,0 +1,69 @@
+-- The tests of the line come first, then those of the index and of the subtable. Assumes nothing.
+use mathlib.Core.Path.{_≡_, sym, ap, _∙_}
+use mathlib.Core.Bool.{Bool}
+use Rattle.answers.specs.Said.{done, saidDone, unless}
+use Rattle.gpos.specs.Tests.{lineTests, offScale}
+use Rattle.gpos.proofs.ApplyingLaws.{index-refused, line-refused, none-refused, subtable-refused}
+use borrow.Author.Needs.{needs}
+use Rattle.gpos.proofs.checks.check_call.Statement.{statement}
+use Rattle.gpos.proofs.checks.check_call.Tie as tie
+
+-- what the tests of the line said
+tested : (c : tie.After-check-line)
+    → let a = c .before .before .before .args in
+    saidDone (c .check-line .result) ≡ unless (lineTests (a .line .now) (a .direction) (offScale (a .s) (a .u))) done
+tested c =
+    let a = c .before .before .before .args in
+    c .check-line .ensures ∙ ap (λ (x : Bool). unless (lineTests (a .line .now) (a .direction) x) done) (c .before .is-off-scale .ensures)
+
+is-off-scale-requires : tie.Need-is-off-scale-requires
+is-off-scale-requires c κs = search needs
+
+check-line-requires : tie.Need-check-line-requires
+check-line-requires c κs = search needs
+
+enum-known-checked : tie.Need-enum-known-checked
+enum-known-checked c = search needs
+
+enum-told : tie.Need-enum-told
+enum-told c = search needs
+
+-- where they don't refuse
+passed : (c : tie.After-enum-told)
+    → let a = c .before .before .before .before .before .args in
+    unless (lineTests (a .line .now) (a .direction) (offScale (a .s) (a .u))) done ≡ done
+passed c = sym (tested (c .before .before)) ∙ ap saidDone (c .enum-told .given .1)
+
+returns : tie.Need-returns
+returns c =
+    let a = c .before .before .before .before .before .before .args in
+    sym (index-refused (a .line .now) (a .direction) (a .s) (a .u) (a .misplaced) (a .damaged) (passed (c .before)) (c .if1 .taken))
+
+returns-2 : tie.Need-returns-2
+returns-2 c =
+    let a = c .before .before .before .before .before .before .before .args in
+    sym (subtable-refused (a .line .now) (a .direction) (a .s) (a .u) (a .misplaced) (a .damaged) (passed (c .before .before)) (c .before .if1 .left) (c .if2 .taken))
+
+returns-3 : tie.Need-returns-3
+returns-3 c =
+    let k = c .before .before .before in
+    let a = k .before .before .before .args in
+    sym (line-refused (a .line .now) (a .direction) (a .s) (a .u) (a .misplaced) (a .damaged) _ (sym (tested k) ∙ ap saidDone (c .before .checked .given .1)))
+
+returns-4 : tie.Need-returns-4
+returns-4 c =
+    let a = c .before .before .before .before .before .before .before .args in
+    sym (none-refused (a .line .now) (a .direction) (a .s) (a .u) (a .misplaced) (a .damaged) (passed (c .before .before)) (c .before .if1 .left) (c .if2 .left))
+
+pub check-call-spec : {M : Type 1} → statement M
+check-call-spec =
+    tie.close
+    (tie.spec
+    is-off-scale-requires
+    check-line-requires
+    enum-known-checked
+    enum-told
+    returns
+    returns-2
+    returns-3
+    returns-4)
