@@ -44,12 +44,17 @@ int main(void) {
     say_done("gpos_start", gpos_start(line, sizeof line));
 
     uint32_t attached = 0;
-    for (size_t i = 0; i < SLOTS; i++) {
+    /* A lookup at a time, each of one subtable; where it was applied, the answer says where to go on. */
+    for (size_t i = 0; i < SLOTS;) {
         gpos_answer a = gpos_single(line, sizeof line, wider, sizeof wider, GPOS_LEFT_TO_RIGHT, 1000, 1000, i);
         say("gpos_single", a);
-        a = gpos_mark_base(line, sizeof line, marks, sizeof marks, GPOS_LEFT_TO_RIGHT, 1000, 1000, i);
+        i = a.status == GPOS_APPLIED ? a.next : i + 1;
+    }
+    for (size_t i = 0; i < SLOTS;) {
+        gpos_answer a = gpos_mark_base(line, sizeof line, marks, sizeof marks, GPOS_LEFT_TO_RIGHT, 1000, 1000, i);
         say("gpos_mark_base", a);
         attached |= a.attached;
+        i = a.status == GPOS_APPLIED ? a.next : i + 1;
     }
     show("adjusted and attached: offsets count from the base");
     say_done("gpos_finish", gpos_finish(line, sizeof line, GPOS_LEFT_TO_RIGHT, GPOS_NESTING_LIMIT, attached));

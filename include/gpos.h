@@ -1,13 +1,15 @@
 /* gpos.h: glyph positioning (OpenType GPOS) on a line of glyph slots.
  *
  * Link with libgpos_c.a, which `rt staticlib gpos_c` writes to target/staticlib/. It is for x86-64 Linux, allocates nothing, keeps no state, calls
- * nothing and may be used from any number of threads at once.
+ * nothing and may be used from any number of threads at once. Of stack, gpos_cursive takes up to 82,200 bytes, for an old chain through a whole line (80 a
+ * slot), gpos_finish up to 4,216, and every other call up to 464 (measured).
  *
  * A label is a LINE: up to 1,024 glyph slots of 24 bytes each, one after the other, in memory that you lend for the call. A call starts a line, applies one
  * GPOS subtable at one glyph, or finishes the line:
  *
  *     gpos_start(line, len);                          forget old attachments
  *     for each lookup, from index 0 on:
+ *         pass over the slots whose glyph the lookup's flag skips; at another
  *         try its subtables in order, by gpos_single, gpos_pair, gpos_cursive, gpos_mark_base or gpos_mark_ligature:
  *         the first that applies ends the turn, and its answer says at which index to go on; if none does, go on at the next slot
  *     gpos_finish(line, len, direction, GPOS_NESTING_LIMIT, attached);
@@ -26,7 +28,8 @@
  *            8-11    x advance, signed          12-15   y advance, signed
  *            16-19   x offset, signed           20-23   y offset, signed
  *
- * gpos_get_slot and gpos_put_slot, below, read and write one.
+ * gpos_get_slot and gpos_put_slot, below, read and write one. No address needs to be aligned. Advances and offsets are in your units, of which the size s has s; y grows
+ * upward, as in the font. Before the first call a slot has the advances of its glyph.
  *
  *
  * WHAT A CALL ANSWERS. gpos_start and gpos_finish return 0 when done, else the number of a refusal. The others return a gpos_answer: applied, declined, or
@@ -35,7 +38,7 @@
  *     1   GPOS_REFUSED_LINE        the line's length is no multiple of 24, or above 24,576
  *     2   GPOS_REFUSED_DIRECTION   the direction is above 3
  *     3   GPOS_REFUSED_NUMBER      s is not from 1 to 32,768, u is not from 16 to 16,384, or the nesting limit is above 64
- *     4   GPOS_REFUSED_SLOT        a slot's ligature id, component or spare flag bits are out of range
+ *     4   GPOS_REFUSED_SLOT        some slot's ligature id, component or spare flag bits are out of range
  *     5   GPOS_REFUSED_INDEX       the index is not in the line; second is not after it or not in the line; previous is not before it; a bound is
  *                                  above the number of slots
  *     6   GPOS_REFUSED_SUBTABLE    the subtable is over 65,536 bytes, its fixed header is cut, its format is unknown, a value format is above 255, or
@@ -85,7 +88,7 @@ enum { GPOS_LEFT_TO_RIGHT = 0, GPOS_RIGHT_TO_LEFT = 1, GPOS_TOP_TO_BOTTOM = 2, G
 
 /* Bits of a slot's flags. */
 enum {
-    GPOS_SEEN = 1,      /* the lookup at hand doesn't skip this glyph. For mark attachment clear it on marks */
+    GPOS_SEEN = 1,      /* only gpos_mark_base and gpos_mark_ligature look at it: set it on every glyph but marks, whatever the lookup's flag */
     GPOS_MARK = 2,      /* the glyph is a mark */
     GPOS_MULTIPLIED = 4 /* the glyph is one of several that a substitution made of one */
 };
@@ -137,14 +140,15 @@ typedef struct {
 _Static_assert(sizeof(gpos_hazard) == 24 && sizeof(gpos_answer) == 72, "the layout of the library");
 #endif
 
-/* Single adjustment (lookup type 1): adds a value record to the glyph.
+/* Single adjustment (lookup type 1): adds a value record to the glyph. In vertical text a record's y advance, which counts downward, is subtracted. A record that the subtable's end cuts is
+ * applied and adds nothing.
  * Declined where the glyph is uncovered or has no record, without a hazard. */
 gpos_answer gpos_single(uint8_t *line, size_t line_len, const uint8_t *subtable, size_t subtable_len, uint32_t direction, uint32_t s, uint32_t u, size_t index);
 
 /* Pair adjustment (lookup type 2): adds value records to the glyph and to the next one that the lookup doesn't skip.
  * second_missing 0: second is that glyph's slot. Any other: there is none, and second is the end of the text that was searched for one.
- * Declined where the glyph is uncovered or has no pair set, without a hazard; where there is no second glyph or the pair has no record, with GPOS_CONCAT. A pair
- * whose values are zero is applied. */
+ * Declined where the glyph is uncovered or has no pair set, or the set is cut where the pair was looked for, without a hazard; where there is no second glyph or the pair has
+ * no record, with GPOS_CONCAT. A pair whose values are zero is applied. */
 gpos_answer gpos_pair(uint8_t *line, size_t line_len, const uint8_t *subtable, size_t subtable_len, uint32_t direction, uint32_t s, uint32_t u, size_t index,
                       uint32_t second_missing, size_t second);
 
@@ -160,7 +164,8 @@ gpos_answer gpos_cursive(uint8_t *line, size_t line_len, const uint8_t *subtable
                          uint32_t previous_missing, size_t previous, uint32_t lookup_flag);
 
 /* Mark-to-base attachment (lookup type 4): attaches the mark at index to the nearest base before it that is seen.
- * Declined where the mark is uncovered or an anchor is missing, without a hazard; where no base is found or it is uncovered, with GPOS_CONCAT. */
+ * Declined where the mark is uncovered, there is no base coverage, or an array or an anchor is missing, without a hazard; where no base is found or it is uncovered, with
+ * GPOS_CONCAT. */
 gpos_answer gpos_mark_base(uint8_t *line, size_t line_len, const uint8_t *subtable, size_t subtable_len, uint32_t direction, uint32_t s, uint32_t u, size_t index);
 
 /* Mark-to-ligature attachment (lookup type 5): attaches the mark at index to its component of the nearest ligature before it that is seen.

@@ -1,5 +1,5 @@
-/* Measures how much of the stack the two calls that call themselves take: a call is made on memory of its own, painted before, and what is no longer as painted
-   was used. With a word it makes the deepest calls on the stack it was started with. */
+/* Measures how much of the stack the calls take: a call is made on memory of its own, painted before, and what is no longer as painted was used. Two of them call
+   themselves; with a word it makes their deepest calls on the stack it was started with. */
 #include "gpos.h"
 
 #include <stdio.h>
@@ -27,14 +27,14 @@ static int is(size_t k, int chain, int y) {
 /* CursivePos: glyph 1 with an entry and an exit at (0, 0). */
 static const uint8_t joins[] = {0, 1, 0, 10, 0, 1, 0, 16, 0, 16, 0, 1, 0, 1, 0, 1, 0, 1, 0, 0, 0, 0};
 
-/* The last slot, at the end of a chain that leads through every slot but the first, is joined to the first. */
+/* The last slot, of a loop that leads through every slot but the first, is joined to the first. */
 static void reversal(void) { gpos_cursive(line, SLOT * slots, joins, sizeof joins, 0, 1000, 1000, slots - 1, 0, 0, 0); }
 
 static void finishing(void) { gpos_finish(line, SLOT * slots, 0, limit, 1); }
 
-/* Each slot hangs on the one before: slot 1 on nothing. */
-static void chain_down(void) {
-    for (size_t k = 0; k < slots; k++) put(k, k < 2 ? 0 : -1);
+/* Each slot hangs on the one before, slot 1 on the last, slot 0 on nothing. */
+static void loop_down(void) {
+    for (size_t k = 0; k < slots; k++) put(k, k == 0 ? 0 : k == 1 ? (int)slots - 2 : -1);
 }
 
 /* Each slot hangs on the one after. */
@@ -42,12 +42,27 @@ static void chain_up(void) {
     for (size_t k = 0; k < slots; k++) put(k, k + 1 < slots ? 1 : 0);
 }
 
-/* Is every slot between hung onto the one after, with its child's offset negated, and the last onto the first? */
+/* Is every slot between hung onto the one after, with its child's offset negated, and the last onto the first? The last slot's offset was that of slot 1, negated, when
+   it was read. */
 static int reversed(void) {
     for (size_t k = 1; k + 1 < slots; k++)
-        if (!is(k, 1, -(int)(k + 1))) return 0;
+        if (!is(k, 1, k + 2 == slots ? 1 : -(int)(k + 1))) return 0;
     return is(slots - 1, -(int)(slots - 1), 0);
 }
+
+/* SinglePos, PairPos of both formats, MarkBasePos and MarkLigPos for glyph 1, each applied: the other calls. */
+static const uint8_t single[] = {0, 1, 0, 8, 0, 4, 0, 9, 0, 1, 0, 1, 0, 1};
+static const uint8_t pairs[] = {0, 1, 0, 12, 0, 4, 0, 4, 0, 1, 0, 18, 0, 1, 0, 1, 0, 1, 0, 1, 0, 1, 0, 9, 0, 9};
+static const uint8_t classes[] = {0, 2, 0, 20, 0, 4, 0, 4, 0, 0, 0, 0, 0, 1, 0, 1, 0, 9, 0, 9, 0, 1, 0, 1, 0, 1};
+static const uint8_t bases[] = {0, 1, 0, 12, 0, 12, 0, 1, 0, 18, 0, 30, 0, 1, 0, 1, 0, 1, 0, 1, 0, 0, 0, 6, 0, 1, 0, 1, 0, 1, 0, 1, 0, 4, 0, 1, 0, 9, 0, 9};
+static const uint8_t ligatures[] = {0, 1, 0, 12, 0, 12, 0, 1, 0, 18, 0, 30, 0, 1, 0, 1, 0, 1, 0, 1, 0, 0, 0, 6, 0, 1, 0, 1, 0, 1, 0, 1, 0, 4, 0, 1, 0, 4, 0, 1, 0, 9, 0, 9};
+static volatile uint32_t status;
+static void starting(void) { gpos_start(line, SLOT * slots); }
+static void adjusting(void) { status = gpos_single(line, SLOT * slots, single, sizeof single, 0, 1000, 1000, slots - 1).status; }
+static void pairing(void) { status = gpos_pair(line, SLOT * slots, pairs, sizeof pairs, 0, 1000, 1000, 0, 0, 1).status; }
+static void classing(void) { status = gpos_pair(line, SLOT * slots, classes, sizeof classes, 0, 1000, 1000, 0, 0, 1).status; }
+static void on_base(void) { status = gpos_mark_base(line, SLOT * slots, bases, sizeof bases, 0, 1000, 1000, slots - 1).status; }
+static void on_ligature(void) { status = gpos_mark_ligature(line, SLOT * slots, ligatures, sizeof ligatures, 0, 1000, 1000, slots - 1).status; }
 
 static size_t used(void (*call)(void)) {
     memset(room, PAINT, ROOM);
@@ -60,9 +75,26 @@ static size_t used(void (*call)(void)) {
     return ROOM - k;
 }
 
+/* The most that the calls take which don't call themselves; 0 if one isn't applied. */
+static size_t others(void) {
+    void (*calls[])(void) = {adjusting, pairing, classing, on_base, on_ligature};
+    slots = SLOTS;
+    chain_up();
+    line[SLOT * (SLOTS - 2) + 4] = 1; /* seen: the base */
+    line[SLOT * (SLOTS - 2) + 7] = 0; /* and not attached */
+    size_t most = 0;
+    for (size_t k = 0; k < sizeof calls / sizeof *calls; k++) {
+        size_t bytes = used(calls[k]);
+        if (status != GPOS_APPLIED) return 0;
+        if (most < bytes) most = bytes;
+    }
+    size_t bytes = used(starting);
+    return most < bytes ? bytes : most;
+}
+
 static size_t reversing(size_t n) {
     slots = n;
-    chain_down();
+    loop_down();
     size_t bytes = used(reversal);
     return reversed() ? bytes : 0;
 }
@@ -77,7 +109,7 @@ int main(int words, char **word) {
     if (words > 1) {
         (void)word;
         slots = SLOTS, limit = LIMIT;
-        chain_down();
+        loop_down();
         reversal();
         int good = reversed();
         chain_up();
@@ -85,9 +117,10 @@ int main(int words, char **word) {
         puts(good ? "both end" : "not reversed");
         return !good;
     }
-    size_t one = reversing(SLOTS), few = reversing(24), deep = finishing_at(LIMIT), flat = finishing_at(0);
-    if (one == 0 || few == 0) return 1;
+    size_t one = reversing(SLOTS), few = reversing(24), deep = finishing_at(LIMIT), flat = finishing_at(0), rest = others();
+    if (one == 0 || few == 0 || rest == 0) return 1;
     printf("gpos_cursive: %zu bytes of stack to reverse a chain through 24 slots, %zu through 1,024: %zu a slot\n", few, one, (one - few) / (SLOTS - 24));
     printf("gpos_finish: %zu bytes with nesting limit 0, %zu with 64: %zu a level\n", flat, deep, (deep - flat) / LIMIT);
+    printf("the other calls: at most %zu bytes\n", rest);
     return 0;
 }

@@ -21,7 +21,7 @@ pub struct Slot {
 impl Slot {
     /// Bytes of a slot.
     pub const SIZE: usize = 24;
-    /// The lookup at hand doesn't skip this glyph. For mark attachment clear it on marks.
+    /// Only mark attachment looks at it: set it on every glyph but marks, whatever the lookup's flag.
     pub const SEEN: u8 = 1;
     /// The glyph is a mark.
     pub const MARK: u8 = 2;
