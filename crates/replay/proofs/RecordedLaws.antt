@@ -22,9 +22,13 @@ pub pattern-at : (l : List ℕ) (at r : ℕ) → Bytes l → r < 4294967296 → 
 unfolding intAt
 pattern-at l at r b f e = sym (pattern-signed 4 r f) ∙ ap (pattern 4) e ∙ pattern-signed 4 (natAt 4 l at) (natAt-fits 4 l at b)
 
+-- false is not true
+pub never : {P : Type 0} → false ≡ true → P
+never e = let z : _≡_ {A = ℕ} 0 1 = cc in absurd (omega arith)
+
 -- false decides what doesn't hold
 pub refuted : {P : Type 0} → (P → ⊥) → false ≡ true ↔ P
-refuted f = (λ e. let z : _≡_ {A = ℕ} 0 1 = cc in absurd (omega arith), λ p. absurd (f p))
+refuted f = (never, λ p. absurd (f p))
 
 -- two values of which one number differs are not the same
 pub differ : {A : Type 0} (f : A → ℕ) (a b : A) (n : ℕ) → n ≡ f b → (n ≡ f a → ⊥) → false ≡ true ↔ a ≡ b

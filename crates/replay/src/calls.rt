@@ -1,64 +1,131 @@
-// The recorded calls, made again.
+// The recorded calls, made again: each says whether it answered as was recorded.
 use crate::recorded::is_answer;
 use crate::recorded::is_done;
+use crate::recorded::is_same;
 use crate::recorded::number;
 use crate::recorded::place;
+ghost use mathlib.Core.Bool.{true};
+ghost use mathlib.Core.Path.{_≡_};
+ghost use Rattle.replay.specs.Recorded.{numberAt};
+ghost use Rattle.replay.specs.Replayed.{Replayed};
 
-// Makes the call, and says whether it answered as it did.
-pub fn is_alike(head: &[u8; 92], line: &mut [u8], subtable: &[u8]) -> bool {
-    let kind = number(head, 0);
-    let direction = number(head, 1);
-    let s = number(head, 2);
-    let u = number(head, 3);
-    let index = place(head, 8);
-    if kind == 0 {
-        return is_done(head, gpos_c::gpos_start(line));
-    }
-    if kind == 1 {
-        return is_done(
-            head,
-            gpos_c::gpos_finish(line, direction, number(head, 4), number(head, 5)),
-        );
-    }
-    if kind == 2 {
-        return is_answer(
-            head,
-            gpos_c::gpos_single(line, subtable, direction, s, u, index),
-        );
-    }
-    is_attached_alike(head, line, subtable)
+fn is_start(head: &[u8; 92], line: &mut [u8], subtable: &[u8]) -> bool
+    requires { ⌜ numberAt (now head) 0 ≡ 0 ⌝ }
+    ensures { λ r. ⌜ (r ≡ true → Replayed (now (head .entry)) (now (line .entry)) (now (subtable .entry)) (now (line .exit))) ⌝ }
+{
+    is_done(head, gpos_c::gpos_start(line))
 }
 
-// The same for the calls that look at a neighbour or search for one.
-fn is_attached_alike(head: &[u8; 92], line: &mut [u8], subtable: &[u8]) -> bool {
-    let kind = number(head, 0);
-    let d = number(head, 1);
-    let s = number(head, 2);
-    let u = number(head, 3);
-    let missing = number(head, 6);
-    let index = place(head, 8);
-    let near = place(head, 9);
-    if kind == 3 {
-        return is_answer(
-            head,
-            gpos_c::gpos_pair(line, subtable, d, s, u, index, missing, near),
-        );
+fn is_finish(head: &[u8; 92], line: &mut [u8], subtable: &[u8]) -> bool
+    requires { ⌜ numberAt (now head) 0 ≡ 1 ⌝ }
+    ensures { λ r. ⌜ (r ≡ true → Replayed (now (head .entry)) (now (line .entry)) (now (subtable .entry)) (now (line .exit))) ⌝ }
+{
+    let r = gpos_c::gpos_finish(line, number(head, 1), number(head, 4), number(head, 5));
+    is_done(head, r)
+}
+
+fn is_single(head: &[u8; 92], line: &mut [u8], subtable: &[u8]) -> bool
+    requires { ⌜ numberAt (now head) 0 ≡ 2 ⌝ }
+    ensures { λ r. ⌜ (r ≡ true → Replayed (now (head .entry)) (now (line .entry)) (now (subtable .entry)) (now (line .exit))) ⌝ }
+{
+    let a = gpos_c::gpos_single(
+        line,
+        subtable,
+        number(head, 1),
+        number(head, 2),
+        number(head, 3),
+        place(head, 8),
+    );
+    is_answer(head, a)
+}
+
+fn is_pair(head: &[u8; 92], line: &mut [u8], subtable: &[u8]) -> bool
+    requires { ⌜ numberAt (now head) 0 ≡ 3 ⌝ }
+    ensures { λ r. ⌜ (r ≡ true → Replayed (now (head .entry)) (now (line .entry)) (now (subtable .entry)) (now (line .exit))) ⌝ }
+{
+    let a = gpos_c::gpos_pair(
+        line,
+        subtable,
+        number(head, 1),
+        number(head, 2),
+        number(head, 3),
+        place(head, 8),
+        number(head, 6),
+        place(head, 9),
+    );
+    is_answer(head, a)
+}
+
+fn is_cursive(head: &[u8; 92], line: &mut [u8], subtable: &[u8]) -> bool
+    requires { ⌜ numberAt (now head) 0 ≡ 4 ⌝ }
+    ensures { λ r. ⌜ (r ≡ true → Replayed (now (head .entry)) (now (line .entry)) (now (subtable .entry)) (now (line .exit))) ⌝ }
+{
+    let a = gpos_c::gpos_cursive(
+        line,
+        subtable,
+        number(head, 1),
+        number(head, 2),
+        number(head, 3),
+        place(head, 8),
+        number(head, 6),
+        place(head, 9),
+        number(head, 7),
+    );
+    is_answer(head, a)
+}
+
+fn is_mark_base(head: &[u8; 92], line: &mut [u8], subtable: &[u8]) -> bool
+    requires { ⌜ numberAt (now head) 0 ≡ 5 ⌝ }
+    ensures { λ r. ⌜ (r ≡ true → Replayed (now (head .entry)) (now (line .entry)) (now (subtable .entry)) (now (line .exit))) ⌝ }
+{
+    let a = gpos_c::gpos_mark_base(
+        line,
+        subtable,
+        number(head, 1),
+        number(head, 2),
+        number(head, 3),
+        place(head, 8),
+    );
+    is_answer(head, a)
+}
+
+fn is_mark_ligature(head: &[u8; 92], line: &mut [u8], subtable: &[u8]) -> bool
+    requires { ⌜ numberAt (now head) 0 ≡ 6 ⌝ }
+    ensures { λ r. ⌜ (r ≡ true → Replayed (now (head .entry)) (now (line .entry)) (now (subtable .entry)) (now (line .exit))) ⌝ }
+{
+    let a = gpos_c::gpos_mark_ligature(
+        line,
+        subtable,
+        number(head, 1),
+        number(head, 2),
+        number(head, 3),
+        place(head, 8),
+    );
+    is_answer(head, a)
+}
+
+// Makes the call, and says whether it answered as was recorded.
+fn is_alike(head: &[u8; 92], line: &mut [u8], subtable: &[u8]) -> bool
+    ensures { λ r. ⌜ (r ≡ true → Replayed (now (head .entry)) (now (line .entry)) (now (subtable .entry)) (now (line .exit))) ⌝ }
+{
+    match number(head, 0) {
+        0 => is_start(head, line, subtable),
+        1 => is_finish(head, line, subtable),
+        2 => is_single(head, line, subtable),
+        3 => is_pair(head, line, subtable),
+        4 => is_cursive(head, line, subtable),
+        5 => is_mark_base(head, line, subtable),
+        6 => is_mark_ligature(head, line, subtable),
+        _ => false,
     }
-    if kind == 4 {
-        let flag = number(head, 7);
-        return is_answer(
-            head,
-            gpos_c::gpos_cursive(line, subtable, d, s, u, index, missing, near, flag),
-        );
+}
+
+// Makes the call, and says whether answer and line are as recorded.
+pub fn is_replay(head: &[u8; 92], line: &mut [u8], subtable: &[u8], after: &[u8]) -> bool
+    ensures { λ r. ⌜ (r ≡ true → Replayed (now (head .entry)) (now (line .entry)) (now (subtable .entry)) (now (after .entry))) ⌝ }
+{
+    if !is_alike(head, line, subtable) {
+        return false;
     }
-    if kind == 5 {
-        return is_answer(head, gpos_c::gpos_mark_base(line, subtable, d, s, u, index));
-    }
-    if kind == 6 {
-        return is_answer(
-            head,
-            gpos_c::gpos_mark_ligature(line, subtable, d, s, u, index),
-        );
-    }
-    false
+    is_same(line, after)
 }

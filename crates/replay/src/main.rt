@@ -2,30 +2,10 @@
 mod calls; // makes a call
 mod recorded; // what was recorded of it
 
-use calls::is_alike;
+use calls::is_replay;
 use libc::STDIN_FILENO;
 use recorded::place;
 use recorded::unsigned;
-ghost use mathlib.Core.Bool.{true};
-ghost use mathlib.Core.Logic.{_↔_};
-ghost use mathlib.Core.Path.{_≡_};
-
-// Whether the two have the same bytes.
-fn is_same(a: &[u8], b: &[u8]) -> bool
-    ensures { λ r. ⌜ r ≡ true ↔ now (a .entry) ≡ now (b .entry) ⌝ }
-{
-    if a.len() != b.len() {
-        return false;
-    }
-    let mut i = 0;
-    while i < a.len() {
-        if a[i] != b[i] {
-            return false;
-        }
-        i += 1;
-    }
-    true
-}
 
 // Fills a buffer from the list; false where the list ends before that.
 fn is_read(buf: &mut [u8]) -> bool {
@@ -44,10 +24,7 @@ fn is_replayed(head: &[u8; 92], line: &mut [u8], subtable: &mut [u8], after: &mu
     if !is_read(after) {
         return false;
     }
-    if !is_alike(head, line, subtable) {
-        return false;
-    }
-    is_same(line, after)
+    is_replay(head, line, subtable, after)
 }
 
 // The same with room for each, of which so much is used as the call says.

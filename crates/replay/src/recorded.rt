@@ -87,3 +87,20 @@ pub fn is_answer(head: &[u8; 92], a: CAnswer) -> bool
     }
     is_hazard(head, 20, second)
 }
+
+// Whether the two have the same bytes.
+pub fn is_same(a: &[u8], b: &[u8]) -> bool
+    ensures { λ r. ⌜ r ≡ true ↔ now (a .entry) ≡ now (b .entry) ⌝ }
+{
+    if a.len() != b.len() {
+        return false;
+    }
+    let mut i = 0;
+    while i < a.len() {
+        if a[i] != b[i] {
+            return false;
+        }
+        i += 1;
+    }
+    true
+}

@@ -8,8 +8,8 @@ use lib.Seq.{ext-getD}
 use borrow.Author.Count.{below-more}
 use borrow.Author.Needs.{needs}
 use Rattle.replay.proofs.RecordedLaws.{differ}
-use Rattle.replay.proofs.is_same.Statement.{statement}
-use Rattle.replay.proofs.is_same.Tie as tie
+use Rattle.replay.proofs.recorded.is_same.Statement.{statement}
+use Rattle.replay.proofs.recorded.is_same.Tie as tie
 
 abbrev Inv-loop : tie.InvT-loop
 Inv-loop a b i₀ i = (i ≤ length a) × ((k : ℕ) → k < i → getD a k 0 ≡ getD b k 0)

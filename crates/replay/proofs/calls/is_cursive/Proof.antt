@@ -1,0 +1,63 @@
+-- The call was made with the recorded numbers, and its answer is the recorded one. Assumes nothing.
+use borrow.Author.Needs.{needs}
+use Rattle.replay.specs.Replayed.{cursive}
+use Rattle.replay.proofs.calls.is_cursive.Statement.{statement}
+use Rattle.replay.proofs.calls.is_cursive.Tie as tie
+
+number-requires : tie.Need-number-requires
+number-requires c κs = search needs
+
+number-requires-2 : tie.Need-number-requires-2
+number-requires-2 c κs = search needs
+
+number-requires-3 : tie.Need-number-requires-3
+number-requires-3 c κs = search needs
+
+place-requires : tie.Need-place-requires
+place-requires c κs = search needs
+
+number-requires-4 : tie.Need-number-requires-4
+number-requires-4 c κs = search needs
+
+place-requires-2 : tie.Need-place-requires-2
+place-requires-2 c κs = search needs
+
+number-requires-5 : tie.Need-number-requires-5
+number-requires-5 c κs = search needs
+
+gpos-cursive-requires : tie.Need-gpos-cursive-requires
+gpos-cursive-requires c κs = search needs
+
+is-answer-requires : tie.Need-is-answer-requires
+is-answer-requires c κs = search needs
+
+same-length : tie.Need-same-length
+same-length c = search needs
+
+returns : tie.Need-returns
+returns c =
+    let call = c .before .before .before in
+    let flag = call .before in
+    let previous = flag .before in
+    let missing = previous .before in
+    let index = missing .before in
+    let u = index .before in
+    let s = u .before in
+    let direction = s .before in
+    λ e. cursive (direction .before .before .before .before .pre) (rw (direction .number .ensures, s .number2 .ensures, u .number3 .ensures, index .place .ensures, missing .number4 .ensures, previous .place2 .ensures, flag .number5 .ensures, c .is-answer .ensures .0 e) at (call .gpos-cursive .ensures))
+
+pub is-cursive-spec : {M : Type 1} → statement M
+is-cursive-spec =
+    tie.close
+    (tie.spec
+    number-requires
+    number-requires-2
+    number-requires-3
+    place-requires
+    number-requires-4
+    place-requires-2
+    number-requires-5
+    gpos-cursive-requires
+    is-answer-requires
+    same-length
+    returns)

@@ -1,0 +1,48 @@
+-- The call was made with the recorded numbers, and its answer is the recorded one. Assumes nothing.
+use borrow.Author.Needs.{needs}
+use Rattle.replay.specs.Replayed.{markBase}
+use Rattle.replay.proofs.calls.is_mark_base.Statement.{statement}
+use Rattle.replay.proofs.calls.is_mark_base.Tie as tie
+
+number-requires : tie.Need-number-requires
+number-requires c κs = search needs
+
+number-requires-2 : tie.Need-number-requires-2
+number-requires-2 c κs = search needs
+
+number-requires-3 : tie.Need-number-requires-3
+number-requires-3 c κs = search needs
+
+place-requires : tie.Need-place-requires
+place-requires c κs = search needs
+
+gpos-mark-base-requires : tie.Need-gpos-mark-base-requires
+gpos-mark-base-requires c κs = search needs
+
+is-answer-requires : tie.Need-is-answer-requires
+is-answer-requires c κs = search needs
+
+same-length : tie.Need-same-length
+same-length c = search needs
+
+returns : tie.Need-returns
+returns c =
+    let call = c .before .before .before in
+    let index = call .before in
+    let u = index .before in
+    let s = u .before in
+    let direction = s .before in
+    λ e. markBase (direction .before .before .before .before .pre) (rw (direction .number .ensures, s .number2 .ensures, u .number3 .ensures, index .place .ensures, c .is-answer .ensures .0 e) at (call .gpos-mark-base .ensures))
+
+pub is-mark-base-spec : {M : Type 1} → statement M
+is-mark-base-spec =
+    tie.close
+    (tie.spec
+    number-requires
+    number-requires-2
+    number-requires-3
+    place-requires
+    gpos-mark-base-requires
+    is-answer-requires
+    same-length
+    returns)

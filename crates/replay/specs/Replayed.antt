@@ -1,0 +1,25 @@
+-- What it means that a recorded call, made again, answered the same. Assumes nothing.
+use mathlib.Core.List.{List}
+use mathlib.Core.Path.{_≡_}
+use Prim.Native.Nat.{ℕ}
+use Rattle.gpos.specs.Cursive.{Cursived}
+use Rattle.gpos.specs.Finish.{Finished}
+use Rattle.gpos.specs.Marks.{Marked}
+use Rattle.gpos.specs.Pair.{Paired}
+use Rattle.gpos.specs.Single.{Singled}
+use Rattle.gpos.specs.Start.{Started}
+use Rattle.marks.specs.declared.subtable.Kind.the-variants.{Base, Ligature}
+use Rattle.gpos_c.specs.Layout.{doneNumber, flat, Laid, neighbour, set}
+use Rattle.replay.specs.Recorded.{numberAt, recordedAnswer, RecordedDone}
+
+-- the head records an answer that its call may give on the line l and the subtable t, with the line l′ afterwards; number 0 is the kind of the call
+pub data Replayed (head l t l′ : List ℕ) : Type 0 where
+  start : numberAt head 0 ≡ 0 → {r : ℕ} → Laid doneNumber (λ d. Started l d l′) r → RecordedDone head r → Replayed head l t l′
+  finish : numberAt head 0 ≡ 1 → {r : ℕ} → Laid doneNumber (λ d. Finished l (numberAt head 1) (numberAt head 4) (set (numberAt head 5)) d l′) r → RecordedDone head r → Replayed head l t l′
+  single : numberAt head 0 ≡ 2 → Laid flat (λ a. Singled l t (numberAt head 1) (numberAt head 2) (numberAt head 3) (numberAt head 8) a l′) (recordedAnswer head) → Replayed head l t l′
+  pair : numberAt head 0 ≡ 3
+      → Laid flat (λ a. Paired l t (numberAt head 1) (numberAt head 2) (numberAt head 3) (numberAt head 8) (neighbour (numberAt head 6) (numberAt head 9)) a l′) (recordedAnswer head) → Replayed head l t l′
+  cursive : numberAt head 0 ≡ 4
+      → Laid flat (λ a. Cursived l t (numberAt head 1) (numberAt head 2) (numberAt head 3) (numberAt head 8) (neighbour (numberAt head 6) (numberAt head 9)) (numberAt head 7) a l′) (recordedAnswer head) → Replayed head l t l′
+  markBase : numberAt head 0 ≡ 5 → Laid flat (λ a. Marked Base l t (numberAt head 1) (numberAt head 2) (numberAt head 3) (numberAt head 8) a l′) (recordedAnswer head) → Replayed head l t l′
+  markLigature : numberAt head 0 ≡ 6 → Laid flat (λ a. Marked Ligature l t (numberAt head 1) (numberAt head 2) (numberAt head 3) (numberAt head 8) a l′) (recordedAnswer head) → Replayed head l t l′
