@@ -19,9 +19,10 @@ reach z = if ltb (mag z) 32768 then z else pos 0
 abbrev pub chainTo : ℕ → ℕ → ℤ
 chainTo child parent = reach (pos parent -ℤ pos child)
 
--- how many slots are attached
+-- is slot i attached?
 abbrev pub isAttached : List Slot → ℕ → Bool
 isAttached ss i = not (eqb (natAbs (slot ss i .chain)) 0)
 
+-- how many slots are attached
 unfoldable pub attachedCount : List Slot → ℕ
 attachedCount ss = tally (isAttached ss) (length ss)

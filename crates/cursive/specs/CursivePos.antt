@@ -46,18 +46,22 @@ abbrev pub fromExit : ℕ → ℕ → Spot → Option Spot → Plan
 fromExit idx i entry (some exit) = join i exit entry
 fromExit idx i entry none = stop (concat i (idx + 1) ∷ [])
 
+-- an uncovered previous slot gives no hazard
 abbrev pub fromPrevious : List ℕ → ℕ → ℕ → Spot → Covered → Plan
 fromPrevious t idx i entry (At k) = fromExit idx i entry (exitOf t k)
 fromPrevious t idx i entry Not = stop []
 
+-- the previous slot that the caller names, or the bound of the search that found none
 abbrev pub fromNeighbour : List ℕ → List Slot → ℕ → Neighbour → Spot → Plan
 fromNeighbour t ss idx (Named i) entry = fromPrevious t idx i entry (indexOf t (slot ss i .glyph))
 fromNeighbour t ss idx (Missing f) entry = stop (concat f (idx + 1) ∷ [])
 
+-- without an entry anchor here the previous slot isn't looked at
 abbrev pub fromEntry : List ℕ → List Slot → ℕ → Neighbour → Option Spot → Plan
 fromEntry t ss idx n (some entry) = fromNeighbour t ss idx n entry
 fromEntry t ss idx n none = stop []
 
+-- nor where this glyph is uncovered
 abbrev pub fromCovered : List ℕ → List Slot → ℕ → Neighbour → Covered → Plan
 fromCovered t ss idx n (At k) = fromEntry t ss idx n (entryOf t k)
 fromCovered t ss idx n Not = stop []

@@ -1,6 +1,6 @@
-pub mod MarkPos
-pub mod Search
-pub mod Walk
-pub mod Plan
-pub mod Attachment
-pub mod Codes
+pub mod MarkPos  -- the subtables, and their anchors
+pub mod Search  -- what a mark attaches to
+pub mod Walk  -- the base's walk across the line
+pub mod Plan  -- what is to be done for a mark
+pub mod Attachment  -- attaching it
+pub mod Codes  -- what code's values stand for

@@ -40,6 +40,7 @@ abbrev pub withFound : Kind → Axis → List ℕ → List Slot → ℕ → ℕ 
 withFound kind a t ss idx m b (At k) = withAnchors a ss idx b (anchorsFor kind t k m (slot ss idx) (slot ss b))
 withFound kind a t ss idx m b Not = stop (concat b (idx + 1) ∷ [])
 
+-- once the search has ended: none found, a glyph before the line might have been
 abbrev pub withSearch : Kind → Axis → List ℕ → List Slot → ℕ → ℕ → Option ℕ → Plan
 withSearch kind a t ss idx m (some b) = withFound kind a t ss idx m b (baseIndex t (slot ss b .glyph))
 withSearch kind a t ss idx m none = stop (concat 0 (idx + 1) ∷ [])

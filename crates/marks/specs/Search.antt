@@ -15,7 +15,7 @@ use Rattle.marks.specs.MarkPos.{baseIndex}
 use Rattle.marks.specs.declared.subtable.Kind.{Kind}
 use Rattle.marks.specs.declared.subtable.Kind.the-variants.{Base, Ligature}
 
--- slot i goes on a multiple substitution that slot p, before it, is part of: p is no mark and multiplied too, with the same id and the component before
+-- slot s goes on with a multiple substitution that slot p, before it, is part of: p is no mark and multiplied too, with the same id and the component before
 abbrev pub goesOn : Slot → Slot → Bool
 goesOn p s =
     not (flagOf Mark p) && (flagOf Multiplied p && (eqb (s .ligatureId) (p .ligatureId) && eqb (s .component) (p .component + 1)))

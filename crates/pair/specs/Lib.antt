@@ -1,6 +1,6 @@
-pub mod PairPos
-pub mod PairSet
-pub mod Plan
-pub mod Adjustment
-pub mod Codes
-pub mod ProbeSmall
+pub mod PairPos  -- the subtable
+pub mod PairSet  -- the pair set, and the probe
+pub mod Plan  -- which record a pair has
+pub mod Adjustment  -- applying it
+pub mod Codes  -- what code's decision stands for
+pub mod ProbeSmall  -- the bound of what a probe finds

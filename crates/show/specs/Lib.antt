@@ -1,1 +1,1 @@
-pub mod Text
+pub mod Text  -- the text of numbers and slots

@@ -1,7 +1,7 @@
-pub mod Axis
-pub mod Slot
-pub mod Line
-pub mod Fields
-pub mod Parent
-pub mod Checks
-pub mod Start
+pub mod Axis  -- axes and directions
+pub mod Slot  -- the slot and its bytes
+pub mod Line  -- the line as a list of slots
+pub mod Fields  -- the fields of a slot
+pub mod Parent  -- a slot's parent
+pub mod Checks  -- refusals 1 and 4
+pub mod Start  -- starting

@@ -1,6 +1,6 @@
 -- The Coverage table (OpenType, Common Table Formats). Assumes nothing.
---   format 1: uint16 format, uint16 glyphCount, uint16 glyphArray[glyphCount]; a glyph's index is its place
---   format 2: uint16 format, uint16 rangeCount, rangeRecords[rangeCount] of uint16 startGlyphID, endGlyphID, startCoverageIndex; a glyph's
+--   format 1: uint16 coverageFormat, uint16 glyphCount, uint16 glyphArray[glyphCount]; a glyph's index is its place
+--   format 2: uint16 coverageFormat, uint16 rangeCount, rangeRecords[rangeCount] of uint16 startGlyphID, endGlyphID, startCoverageIndex; a glyph's
 --     index is startCoverageIndex + glyph - startGlyphID
 use mathlib.Core.Bool.{Bool, true, false, _&&_}
 use mathlib.Core.List.{List}

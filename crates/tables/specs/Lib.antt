@@ -1,8 +1,8 @@
-pub mod Header
-pub mod Part
-pub mod Spans
-pub mod Coverage
-pub mod ClassDef
-pub mod Anchor
-pub mod MarkArray
-pub mod AnchorRows
+pub mod Header  -- a subtable's format and header
+pub mod Part  -- tables at offsets
+pub mod Spans  -- ascending lists of spans
+pub mod Coverage  -- the Coverage table
+pub mod ClassDef  -- the ClassDef table
+pub mod Anchor  -- the Anchor table
+pub mod MarkArray  -- the MarkArray table
+pub mod AnchorRows  -- rows of anchors, one for each mark class

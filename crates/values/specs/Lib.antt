@@ -1,4 +1,4 @@
-pub mod Format
-pub mod Touch
-pub mod Codes
-pub mod Value
+pub mod Format  -- ValueFormat and ValueRecord
+pub mod Touch  -- what a field does in a direction
+pub mod Codes  -- the numbers in the table of 32
+pub mod Value  -- applying a record

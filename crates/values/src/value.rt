@@ -52,7 +52,7 @@ fn touch(line: &mut [u8], i: usize, t: u8, v: Signed)
     slots::fields::set(line, i, Measure::Advance, Axis::Y, sat_sub(old, v));
 }
 
-// One field that a whole record has applied to slot i: whether it worked, which looks at the value before scaling.
+// One field that a whole record has, applied to slot i: whether it worked, which looks at the value before scaling.
 fn apply_field(
     line: &mut [u8],
     i: usize,
