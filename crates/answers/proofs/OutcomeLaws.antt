@@ -11,19 +11,13 @@ use Rattle.slots.specs.Slot.{Slot, slotSize}
 use Rattle.slots.specs.Line.{bytes, slots}
 use Rattle.slots.specs.Checks.{misshapen, mostSlots}
 use Rattle.slots.proofs.LineLaws.{from-slots, same-slots}
-use Rattle.answers.specs.Said.{Said, applied, declined, done, refused, said, saidDone}
+use Rattle.answers.specs.Said.{Said, applied, declined, done, refused}
 use Rattle.answers.specs.Outcome.{Effect, lineAfter, Outcome, slotsAfter}
-use Rattle.answers.specs.declared.Answer.{Answer}
-use Rattle.answers.specs.declared.Done.{Done}
-use Rattle.answers.proofs.SaidLaws.{said-same, saidDone-same}
 
--- two results that meet the same contract are equal, answer and bytes: of an applying call, and of starting and finishing
-module _ (l : List ℕ) (s : Said) (ss : List Slot) (l₁ l₂ : List ℕ) where
-  pub one-answer : (r₁ r₂ : Answer) → Outcome l s ss (said r₁) l₁ → Outcome l s ss (said r₂) l₂ → (r₁ ≡ r₂) × (l₁ ≡ l₂)
-  one-answer r₁ r₂ p q = (said-same r₁ r₂ (p .answer ∙ sym (q .answer)), p .line ∙ sym (q .line))
-
-  pub one-done : (r₁ r₂ : Done) → Outcome l s ss (saidDone r₁) l₁ → Outcome l s ss (saidDone r₂) l₂ → (r₁ ≡ r₂) × (l₁ ≡ l₂)
-  one-done r₁ r₂ p q = (saidDone-same r₁ r₂ (p .answer ∙ sym (q .answer)), p .line ∙ sym (q .line))
+-- two results that meet the same contract are equal, answer and bytes, where an answer is told by what it says: `saying`
+pub one-outcome : {A : Type 0} (saying : A → Said) → ((r q : A) → saying r ≡ saying q → r ≡ q)
+    → (l : List ℕ) (s : Said) (ss : List Slot) (l₁ l₂ : List ℕ) (r₁ r₂ : A) → Outcome l s ss (saying r₁) l₁ → Outcome l s ss (saying r₂) l₂ → (r₁ ≡ r₂) × (l₁ ≡ l₂)
+one-outcome saying tells l s ss l₁ l₂ r₁ r₂ p q = (tells r₁ r₂ (p .answer ∙ sym (q .answer)), p .line ∙ sym (q .line))
 
 -- a line that isn't misshapen is whole slots
 pub shapely : (l : List ℕ) → misshapen l ≡ false → length l % slotSize ≡ 0
