@@ -1,13 +1,14 @@
 -- `pair::decision::from_classes` meets its contract: a class outside its count and a record that is cut miss, else the record is where the definition has it. Assumes
 -- nothing.
 use mathlib.Core.Path.{ap, _∙_}
-use Prim.Native.Nat.{_*_, _+_, _≤_}
+use Prim.Native.Nat.{_*_, _+_, _≤_, _<_}
 use native.Mathlib.Omega.{arith}
 use borrow.Author.Needs.{needs}
 use denote.Ref.{now}
+use Rattle.tables.proofs.AnchorRowsLaws.{places-few}
 use Rattle.pair.specs.Plan.{stop}
 use Rattle.pair.proofs.PairPosLaws.{good}
-use Rattle.pair.proofs.PlanLaws.{classes-small, first-outside, place-small, record-cut, record-there, second-outside}
+use Rattle.pair.proofs.PlanLaws.{first-outside, place-small, record-cut, record-there, second-outside}
 use Rattle.pair.proofs.decision.from_classes.Statement.{statement}
 use Rattle.pair.proofs.decision.from_classes.Tie as tie
 
@@ -62,8 +63,8 @@ cast-at : tie.Need-cast-at
 cast-at c = search needs
 
 -- how far the record of two classes is from the first
-many : (c : tie.After-pair-length) → c .before .before .before .before .before .before .args .c1 * c .before .before .before .before .read-u16 .result ≤ 4294967296
-many c = classes-small (c .before .before .before .before .before .before .args .c1) (c .before .before .before .before .read-u16 .result) (omega arith) (omega arith)
+many : (c : tie.After-pair-length) → c .before .before .before .before .before .before .args .c1 * c .before .before .before .before .read-u16 .result < 4294967296
+many c = places-few (c .before .before .before .before .before .before .args .c1) (c .before .before .before .before .read-u16 .result) (omega arith) (omega arith)
 
 near : (c : tie.After-pair-length)
     → c .pair-length .result
