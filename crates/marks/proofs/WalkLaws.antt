@@ -37,7 +37,7 @@ climb-in ss i j e = go (cursiveBit (slot ss i .attachType)) e
     go true h = parent-in-line ss i j h
     go false h = let z : _≡_ {A = ℕ} 0 1 = cc in absurd (omega arith)
 
--- ---- the walk by the tests that are left: all of them; n, after one that climbs to p; and none
+-- ---- the walk by the tests that are left: all of them; none; and n, where slot i climbs to p
 pub walk-start : (a : Axis) (ss : List Slot) (i n : ℕ) (sum : ℤ) → n ≡ length ss → sum ≡ offset a (slot ss i) → crossWalk a ss i ≡ walkIn n a ss i sum
 unfolding crossWalk
 walk-start a ss i n sum is-n is-sum = rw (is-n, is-sum)
@@ -52,18 +52,11 @@ module _ (a : Axis) (ss : List Slot) where
   unfolding walkIn
   walk-out n i sum h = let e : n ≡ 0 = omega arith in rw e
 
-  module _ (n i : ℕ) (sum : ℤ) (more : 0 < n) where
-    one-less : walkIn n a ss i sum ≡ walkIn (suc (n - 1)) a ss i sum
-    one-less = let e : n ≡ suc (n - 1) = omega arith in ap (λ (m : ℕ). walkIn m a ss i sum) e
-
-    pub walk-none : climb ss i ≡ None → walkIn n a ss i sum ≡ some sum
-    walk-none e = one-less ∙ by-climb (n - 1) i sum None e
-
-    pub walk-outside : climb ss i ≡ Outside → walkIn n a ss i sum ≡ some sum
-    walk-outside e = one-less ∙ by-climb (n - 1) i sum Outside e
-
-    pub walk-on : (j : ℕ) → climb ss i ≡ At j → walkIn n a ss i sum ≡ walkIn (n - 1) a ss j (plus sum (offset a (slot ss j)))
-    walk-on j e = one-less ∙ by-climb (n - 1) i sum (At j) e
+  pub walk-turn : (n i : ℕ) (sum : ℤ) → 0 < n → (p : Parent) → climb ss i ≡ p
+      → walkIn n a ss i sum ≡ byParent p (some sum) (some sum) (λ j. walkIn (n - 1) a ss j (plus sum (offset a (slot ss j))))
+  walk-turn n i sum more p e =
+      let one : n ≡ suc (n - 1) = omega arith in
+      ap (λ (m : ℕ). walkIn m a ss i sum) one ∙ by-climb (n - 1) i sum p e
 
 -- ---- a walk that has not ended
 -- a step taken first or last
