@@ -9,9 +9,9 @@ use lib.Dec.{leb}
 use lib.IntN.{ℤ, pos, negsuc, negℤ}
 use lib.ListN.{length}
 use Rattle.ints.specs.Saturating.{less, negated, plus}
-use Rattle.ints.specs.Signed.{InBytes, pattern, signed, val}
+use Rattle.ints.specs.Signed.{InBytes, signed, val}
 use Rattle.ints.proofs.SaturatingLaws.{negated-exact}
-use Rattle.ints.proofs.SignedLaws.{pattern-signed}
+use Rattle.ints.proofs.SignedLaws.{signed-same}
 use Rattle.ints.proofs.SizeLaws.{mag-abs}
 use Rattle.slots.specs.Slot.{Slot}
 use Rattle.slots.specs.Line.{slot, update}
@@ -60,20 +60,16 @@ same-ne z w ne = go (sameAs z w) refl
     go true e = absurd (ne (same-eq z w e))
     go false e = e
 
--- code compares patterns: one for each integer
-val-same : (v w : ℕ) → v < 4294967296 → w < 4294967296 → val v ≡ val w → v ≡ w
-val-same v w h k e = sym (pattern-signed 4 v h) ∙ ap (pattern 4) e ∙ pattern-signed 4 w k
-
 module _ (a : Axis) (parent : ℕ) (ss : List Slot) (chain here back : ℕ) (small : InBytes 2 (val chain)) (here-is : val here ≡ slot ss parent .chain)
     (back-is : val back ≡ negated (val chain)) where
   -- the negation of a number of 16 bits is exact
   back-exact : val back ≡ negℤ (val chain)
   back-exact = back-is ∙ negated-exact (val chain) (omega (arith, mag-abs (val chain)))
 
-  -- the parent hangs on something else, or on nothing
+  -- the parent hangs on something else, or on nothing: code compares patterns, one for each integer
   pub stays : here < 4294967296 → back < 4294967296 → (here ≡ back → ⊥) → ss ≡ separatedBy a (val chain) parent ss
   unfolding separatedBy
-  stays h k ne = simp (same-ne (slot ss parent .chain) (negℤ (val chain)) (λ e. ne (val-same here back h k (here-is ∙ e ∙ sym back-exact))))
+  stays h k ne = simp (same-ne (slot ss parent .chain) (negℤ (val chain)) (λ e. ne (signed-same 4 here back h k (here-is ∙ e ∙ sym back-exact))))
 
   -- it was attached to the child
   pub separates : {ss₁ ss₂ : List Slot} → parent < length ss → here ≡ back → ss₁ ≡ update parent (withMeasure Offset a (val 0)) ss

@@ -6,11 +6,12 @@ use Prim.Native.Nat.{ℕ, zero, suc, _<_}
 use native.Mathlib.Omega.{arith}
 use borrow.Author.Tests.{eq-eqb, ne-eqb}
 use lib.Dec.{eqb}
-use lib.IntN.{ℤ, pos, negsuc, natAbs, negℤ}
+use lib.IntN.{ℤ, natAbs, negℤ}
 use lib.ListN.{length}
 use Rattle.ints.specs.Choice.{if_then_else_}
 use Rattle.ints.specs.Saturating.{negated}
 use Rattle.ints.specs.Signed.{val}
+use Rattle.ints.proofs.SizeLaws.{abs-zero}
 use Rattle.slots.specs.Slot.{Slot}
 use Rattle.slots.specs.Line.{slot, update}
 use Rattle.slots.specs.Fields.{attached, cursiveBit, offset, withChain, withMeasure}
@@ -31,11 +32,6 @@ unfolding turned
 length-turned a was ss i j = length-update j _ ss
 
 -- ---- the measure
--- an integer of size 0 is 0
-abs-zero : (z : ℤ) → natAbs z ≡ 0 → z ≡ pos 0
-abs-zero (pos n) e = ap pos e
-abs-zero (negsuc n) e = absurd (omega arith)
-
 -- the slot has a chain
 abbrev chained : Slot → Bool
 chained s = not (eqb (natAbs (s .chain)) 0)

@@ -11,6 +11,7 @@ use Rattle.cursive.specs.Decision.{Before}
 use Rattle.gpos.specs.Neighbours.{badAfter, badBefore}
 use Rattle.gpos.proofs.TestLaws.{or-false}
 
+-- where neither the index nor the rest of the test is bad, the index is in the line
 pub index-in : (n i : ℕ) (bad : Bool) → leb n i || bad ≡ false → (i < n) × (bad ≡ false)
 index-in n i bad e = let f = or-false (leb n i) bad e in (leb-false n i (f .0), f .1)
 

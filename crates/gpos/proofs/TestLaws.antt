@@ -12,6 +12,7 @@ use Rattle.answers.specs.Said.{done, unless}
 use Rattle.answers.proofs.TestLaws.{clear-first}
 use Rattle.gpos.specs.Tests.{lineTests, offScale}
 
+-- two tests of which neither holds
 pub or-false : (a b : Bool) → a || b ≡ false → (a ≡ false) × (b ≡ false)
 or-false false b e = (refl, e)
 or-false true b e = let z : _≡_ {A = ℕ} 0 1 = cc in absurd (omega arith)

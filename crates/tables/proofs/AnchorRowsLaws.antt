@@ -1,4 +1,4 @@
--- Laws of the numbers of rows and columns. Assumes nothing.
+-- Laws of the numbers of rows and columns: how large they are. Assumes nothing.
 use mathlib.Core.Path.{_≡_}
 use mathlib.Core.Bool.{Bool, true, false, _&&_}
 use mathlib.Core.List.{List}
@@ -13,7 +13,7 @@ use Rattle.ints.proofs.BigEndianLaws.{natAt-fits}
 use Rattle.tables.specs.AnchorRows.{rowsOf}
 use Rattle.tables.specs.declared.anchor_rows.Rows.the-variants.{Of, Absent}
 
--- a table of two counts of 16 bits has a number of places that is below 2 ^ 32
+-- the product of two numbers of 16 bits, as the places in a table of so many rows and columns, is below 2 ^ 32
 pub places-few : (rows columns : ℕ) → rows < 65536 → columns < 65536 → rows * columns < 4294967296
 places-few rows columns h l =
     let r : rows ≤ 65535 = omega arith in

@@ -36,21 +36,25 @@ pub sound : (t : List ℕ) (stride over n : ℕ) → wholeSpans t stride n && as
 sound t stride over n e =
     record { whole = leb-true (4 + stride * n) (length t) (and-left _ _ e); up = and-right (wholeSpans t stride n) _ e }
 
--- ---- a table that passed the check, with the count n
-module _ (t : List ℕ) (good : coverageGood t ≡ true) where
-  by-format : Passed (ltb (length t) 4) (eqb (natAt 2 t 0) 1)
-      (wholeSpans t 2 (natAt 2 t 2) && ascends 0 (glyphSpans t (natAt 2 t 2)))
-      (wholeSpans t 6 (natAt 2 t 2) && ascends 0 (rangeSpans t (natAt 2 t 2)))
+-- ---- a coverage table or a class list that passed its check: they differ in what is asked of format 1, `one`
+module _ (t : List ℕ) (one : Bool)
+    (good : (if ltb (length t) 4 then false else (if eqb (natAt 2 t 0) 1 then one
+    else (if eqb (natAt 2 t 0) 2 then wholeSpans t 6 (natAt 2 t 2) && ascends 0 (rangeSpans t (natAt 2 t 2)) else false))) ≡ true) where
+  by-format : Passed (ltb (length t) 4) (eqb (natAt 2 t 0) 1) one (wholeSpans t 6 (natAt 2 t 2) && ascends 0 (rangeSpans t (natAt 2 t 2)))
   by-format = passed (ltb (length t) 4) (eqb (natAt 2 t 0) 1) (eqb (natAt 2 t 0) 2) _ _ good
 
   pub header : 4 ≤ length t
   header = ltb-false (length t) 4 (by-format .not-cut)
 
-  pub glyphs-sound : (n : ℕ) → n ≡ natAt 2 t 2 → natAt 2 t 0 ≡ 1 → Sound t 2 0 n
-  glyphs-sound n e h = rw e (sound t 2 0 (natAt 2 t 2) (by-format .first (eq-eqb (natAt 2 t 0) 1 h)))
+  pub one-good : natAt 2 t 0 ≡ 1 → one ≡ true
+  one-good h = by-format .first (eq-eqb (natAt 2 t 0) 1 h)
 
   pub ranges-sound : (n : ℕ) → n ≡ natAt 2 t 2 → (natAt 2 t 0 ≡ 1 → ⊥) → Sound t 6 2 n
   ranges-sound n e h = rw e (sound t 6 2 (natAt 2 t 2) (by-format .second (ne-eqb (natAt 2 t 0) 1 h)))
+
+-- the glyphs of a coverage table of format 1, with the count n
+pub glyphs-sound : (t : List ℕ) → coverageGood t ≡ true → (n : ℕ) → n ≡ natAt 2 t 2 → natAt 2 t 0 ≡ 1 → Sound t 2 0 n
+glyphs-sound t good n e h = rw e (sound t 2 0 (natAt 2 t 2) (one-good t _ good h))
 
 -- ---- a glyph's index, by what the search found among n spans: k
 module _ (t : List ℕ) (g n k : ℕ) (count : n ≡ natAt 2 t 2) where

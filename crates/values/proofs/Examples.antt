@@ -1,4 +1,4 @@
--- A cut record and a value that scales to nothing, computed from the definitions. Assumes nothing.
+-- Worked values of records: a cut one, one that scales to nothing, and the ends of what a record can do. They compute. Assumes nothing.
 use mathlib.Core.Path.{_≡_, refl}
 use mathlib.Core.Bool.{Bool, true, false}
 use mathlib.Core.List.{List, [], _∷_, map}
