@@ -1,27 +1,49 @@
 -- A refusal is that of the first test that holds; else the core's effect decides the line. Assumes nothing.
-use mathlib.Core.Path.{_≡_, sym, ap, _∙_, subst}
-use mathlib.Core.Bool.{Bool, not}
-use borrow.Author.Tests.{not-false}
-use Rattle.slots.specs.Axis.{directionOf}
-use Rattle.slots.specs.Line.{count, slots}
-use Rattle.slots.specs.declared.axis.Direction.{Direction}
-use Rattle.answers.specs.Said.{done, said, saidDone, unless}
-use Rattle.answers.specs.Outcome.{Effect}
+use mathlib.Core.Path.{_≡_, sym, ap, _∙_}
+use mathlib.Core.Bool.{not}
 use Prim.Native.Nat.{ℕ}
+use borrow.Author.Tests.{not-false}
+use Rattle.slots.specs.Line.{count, slots}
+use Rattle.answers.specs.Said.{Said, done, said, saidDone}
 use Rattle.cursive.specs.Attachment.{planned}
 use Rattle.cursive.specs.CursivePos.{cursiveGood, planOf, planSaid}
 use Rattle.gpos.specs.Neighbours.{badBefore, badPrevious}
+use Rattle.gpos.proofs.ApplyingLaws.{Call, Handed, by-core, callOf, checked, checks, refused-index, refused-line, refused-subtable, scale-in}
 use Rattle.gpos.proofs.NeighbourLaws.{before, index-in}
-use Rattle.gpos.specs.Tests.{lineTests, offScale}
-use Rattle.gpos.proofs.ApplyingLaws.{by-core, refused-index, refused-line, refused-subtable}
-use Rattle.gpos.proofs.TestLaws.{clear, in-scale}
 use borrow.Author.Needs.{needs}
 use Rattle.gpos.proofs.cursive_pos.cursive.Statement.{statement}
 use Rattle.gpos.proofs.cursive_pos.cursive.Tie as tie
 
--- what the checks of the line said, of the scale itself
-tests : (c : tie.After-check-line) → saidDone (c .check-line .result) ≡ unless (lineTests (c .before .before .before .before .before .args .line .now) (c .before .before .before .before .before .args .direction) (offScale (c .before .before .before .before .before .args .s) (c .before .before .before .before .before .args .u))) done
-tests c = c .check-line .ensures ∙ ap (λ (x : Bool). unless (lineTests (c .before .before .before .before .before .args .line .now) (c .before .before .before .before .before .args .direction) x) done) (c .before .is-off-scale .ensures)
+-- the call
+abbrev call : tie.Start → Call
+call c =
+    let a = c .args in
+    callOf (a .line .now) (a .direction) (a .s) (a .u) (badPrevious (count (a .line .now)) (a .index) (a .previous)) (not (cursiveGood (a .subtable .now)))
+    (λ d. planSaid (a .index) (planOf (a .subtable .now) (slots (a .line .now)) (a .index) (a .previous)))
+    (λ d. planned (a .s) (a .u) d (a .flag) (a .index) (planOf (a .subtable .now) (slots (a .line .now)) (a .index) (a .previous)) (slots (a .line .now)))
+
+-- what the checks of its line said
+said-of : (k : tie.After-check-line) {y : Said} → saidDone (k .check-line .result) ≡ y → checks (call (k .before .before .before .before .before)) ≡ y
+said-of k e = checked (call (k .before .before .before .before .before)) (k .check-line .ensures) (k .before .is-off-scale .ensures) e
+
+-- once its slots are counted: where the call began, and that the checks passed
+abbrev start : tie.After-slot-count → tie.Start
+start c = c .before .before .before .before .before .before .before .before .before
+
+passed : (c : tie.After-slot-count) → checks (call (start c)) ≡ done
+passed c = said-of (c .before .before .before .before) (ap saidDone (c .before .before .enum-told .given .1))
+
+-- code's test of the index and the neighbour is the call's
+index-is : (c : tie.After-is-bad-previous) → c .is-bad-previous .result ≡ call (start (c .before)) .bad-index
+index-is c =
+    let a = start (c .before) .args in
+    c .is-bad-previous .ensures ∙ ap (λ (n : ℕ). badPrevious n (a .index) (a .previous)) (c .before .slot-count .ensures)
+
+-- nothing refuses the call
+handed : (g : tie.Else2) → Handed (call (start (g .before .before .before .before)))
+handed g =
+    let k = g .before .before .before in
+    record { passed = passed (k .before); index-good = sym (index-is k) ∙ g .before .before .if1 .left; subtable-good = ap not (sym (g .before .is-good .ensures)) ∙ g .if2 .left }
 
 is-off-scale-requires : tie.Need-is-off-scale-requires
 is-off-scale-requires c κs = search needs
@@ -45,12 +67,7 @@ same-length : tie.Need-same-length
 same-length c = search needs
 
 returns : tie.Need-returns
-returns c =
-    let a = c .before .before .before .before .before .before .before .before .before .before .before .args in
-    let l = a .line .now in
-    let t = a .subtable .now in
-    refused-index l (a .direction) (a .s) (a .u) (badPrevious (count l) (a .index) (a .previous)) (not (cursiveGood t)) (planSaid (a .index) (planOf t (slots l) (a .index) (a .previous))) (planned (a .s) (a .u) (directionOf (a .direction)) (a .flag) (a .index) (planOf t (slots l) (a .index) (a .previous)) (slots l))
-    (sym (tests (c .before .before .before .before .before .before)) ∙ ap saidDone (c .before .before .before .before .enum-told .given .1)) (sym (c .before .is-bad-previous .ensures ∙ ap (λ (n : ℕ). badPrevious n (a .index) (a .previous)) (c .before .before .slot-count .ensures)) ∙ c .if1 .taken)
+returns c = let k = c .before in refused-index (call (start (k .before))) (passed (k .before)) (sym (index-is k) ∙ c .if1 .taken)
 
 is-good-requires : tie.Need-is-good-requires
 is-good-requires c κs = search needs
@@ -60,50 +77,35 @@ same-length-2 c = search needs
 
 returns-2 : tie.Need-returns-2
 returns-2 c =
-    let a = c .before .before .before .before .before .before .before .before .before .before .before .before .before .args in
-    let l = a .line .now in
-    let t = a .subtable .now in
-    refused-subtable l (a .direction) (a .s) (a .u) (badPrevious (count l) (a .index) (a .previous)) (not (cursiveGood t)) (planSaid (a .index) (planOf t (slots l) (a .index) (a .previous))) (planned (a .s) (a .u) (directionOf (a .direction)) (a .flag) (a .index) (planOf t (slots l) (a .index) (a .previous)) (slots l))
-    (sym (tests (c .before .before .before .before .before .before .before .before)) ∙ ap saidDone (c .before .before .before .before .before .before .enum-told .given .1)) (sym (c .before .before .before .is-bad-previous .ensures ∙ ap (λ (n : ℕ). badPrevious n (a .index) (a .previous)) (c .before .before .before .before .slot-count .ensures)) ∙ c .before .before .if1 .left) (ap not (sym (c .before .is-good .ensures)) ∙ c .if2 .taken)
+    let k = c .before .before .before in
+    refused-subtable (call (start (k .before))) (passed (k .before)) (sym (index-is k) ∙ c .before .before .if1 .left) (ap not (sym (c .before .is-good .ensures)) ∙ c .if2 .taken)
 
 direction-of-requires : tie.Need-direction-of-requires
 direction-of-requires c κs = search needs
 
 attach-requires : tie.Need-attach-requires
 attach-requires c κs =
-    let a = c .before .before .before .before .before .before .before .before .before .before .before .before .before .before .before .args in
-    let l = a .line .now in
-    let t = a .subtable .now in
-    let ok : unless (lineTests l (a .direction) (offScale (a .s) (a .u))) done ≡ done = sym (tests (c .before .before .before .before .before .before .before .before .before .before)) ∙ ap saidDone (c .before .before .before .before .before .before .before .before .enum-told .given .1) in
-    let scale = in-scale (a .s) (a .u) (clear l (a .direction) (offScale (a .s) (a .u)) ok .number) in
-    let good = sym (c .before .before .before .is-good .ensures) ∙ not-false _ (c .before .before .if2 .left) in
-    let place = index-in (count l) (a .index) (badBefore (count l) (a .index) (a .previous)) (sym (c .before .before .before .before .before .is-bad-previous .ensures ∙ ap (λ (n : ℕ). badPrevious n (a .index) (a .previous)) (c .before .before .before .before .before .before .slot-count .ensures)) ∙ c .before .before .before .before .if1 .left) in
-    (place .0, before (count l) (a .index) (a .previous) (place .1), scale, good)
+    let h = handed (c .before .before) in
+    let a = start (c .before .before .before .before .before .before) .args in
+    let place = index-in (count (a .line .now)) (a .index) (badBefore (count (a .line .now)) (a .index) (a .previous)) (h .index-good) in
+    (place .0, before (count (a .line .now)) (a .index) (a .previous) (place .1), scale-in h, not-false _ (h .subtable-good))
 
 same-length-3 : tie.Need-same-length-3
 same-length-3 c = search needs
 
 returns-3 : tie.Need-returns-3
-returns-3 c =
-    let a = c .before .before .before .before .before .before .before .before .args in
-    let l = a .line .now in
-    let t = a .subtable .now in
-    refused-line l (a .direction) (a .s) (a .u) (badPrevious (count l) (a .index) (a .previous)) (not (cursiveGood t)) (planSaid (a .index) (planOf t (slots l) (a .index) (a .previous))) (planned (a .s) (a .u) (directionOf (a .direction)) (a .flag) (a .index) (planOf t (slots l) (a .index) (a .previous)) (slots l))
-    _ (sym (tests (c .before .before .before)) ∙ ap saidDone (c .before .checked .given .1))
+returns-3 c = refused-line (call (c .before .before .before .before .before .before .before .before)) _ (said-of (c .before .before .before) (ap saidDone (c .before .checked .given .1)))
 
 same-length-4 : tie.Need-same-length-4
 same-length-4 c = search needs
 
 returns-4 : tie.Need-returns-4
 returns-4 c =
-    let a = c .before .before .before .before .before .before .before .before .before .before .before .before .before .before .before .before .before .before .args in
-    let l = a .line .now in
-    let t = a .subtable .now in
-    let call = c .before .before .attach in
-    by-core l (a .direction) (a .s) (a .u) (badPrevious (count l) (a .index) (a .previous)) (not (cursiveGood t)) (planSaid (a .index) (planOf t (slots l) (a .index) (a .previous))) (planned (a .s) (a .u) (directionOf (a .direction)) (a .flag) (a .index) (planOf t (slots l) (a .index) (a .previous)) (slots l))
-    (sym (tests (c .before .before .before .before .before .before .before .before .before .before .before .before .before)) ∙ ap saidDone (c .before .before .before .before .before .before .before .before .before .before .before .enum-told .given .1)) (call .last .0) (said (call .result)) (sym (c .before .before .before .before .before .before .before .before .is-bad-previous .ensures ∙ ap (λ (n : ℕ). badPrevious n (a .index) (a .previous)) (c .before .before .before .before .before .before .before .before .before .slot-count .ensures)) ∙ c .before .before .before .before .before .before .before .if1 .left) (ap not (sym (c .before .before .before .before .before .before .is-good .ensures)) ∙ c .before .before .before .before .before .if2 .left)
-    (λ k. c .before .before .before .before .before .before .before .before .before .before .before .before .before .before .before .before .before .slice-known .given k .fits) (λ k. c .slice-known2 .given k .fits) (call .kept .0)
-    (subst (λ (d : Direction). Effect (slots l) (planSaid (a .index) (planOf t (slots l) (a .index) (a .previous))) (planned (a .s) (a .u) d (a .flag) (a .index) (planOf t (slots l) (a .index) (a .previous)) (slots l)) (said (call .result)) (slots (call .last .0))) (c .before .before .before .direction-of .ensures) (call .ensures))
+    let g = c .before .before .before .before .before in
+    let core = c .before .before .attach in
+    by-core (handed g) (core .last .0) (said (core .result)) (c .before .before .before .direction-of .ensures)
+    (λ i. g .before .before .before .before .before .before .before .before .before .before .before .before .slice-known .given i .fits)
+    (λ i. c .slice-known2 .given i .fits) (core .kept .0) (core .ensures)
 
 pub cursive-spec : {M : Type 1} → statement M
 cursive-spec =
