@@ -1,8 +1,7 @@
 -- Laws of the probe of a pair set: one step at a time, however many steps are left so long as they are enough. Assumes nothing.
 use mathlib.Core.Path.{_≡_, refl, _∙_}
 use mathlib.Core.List.{List}
-use Prim.Native.Nat.{ℕ, zero, suc, _+_, _*_, _≤_, _<_}
-use native.Mathlib.Nat.{mul-le-mul}
+use Prim.Native.Nat.{ℕ, zero, suc, _+_, _≤_, _<_}
 use native.Mathlib.Omega.{arith}
 use lib.ListN.{length}
 use borrow.Author.Tests.{le-ltb, lt-ltb}
@@ -85,7 +84,3 @@ module _ {set : List ℕ} {size g lo hi : ℕ} {all : Probe} (l : Left set size 
 
       pub hit : secondGlyph set size (middle lo hi) ≤ g → g ≤ secondGlyph set size (middle lo hi) → all ≡ Found (recordAt size (middle lo hi))
       hit a b = step (λ n e q. q ∙ probe-hit set size g n lo hi h w a b)
-
--- a record's place is small
-pub small : (size k : ℕ) → size ≤ 34 → k ≤ 65536 → size * k ≤ 2228224
-small size k h l = mul-le-mul h l
