@@ -18,6 +18,7 @@ use Rattle.slots.specs.declared.axis.Direction.the-variants.{LeftToRight, Right
 use Rattle.slots.specs.declared.fields.Measure.the-variants.{Offset}
 use Rattle.slots.proofs.LineLaws.{update-both, update-none}
 use Rattle.finish.specs.Finish.{isMain, joined, mark, cursive, neither, kindOf, newOffset, taken, walked, withOffsets}
+use Rattle.finish.proofs.WalkLaws.{Walked}
 
 -- what a mark walks from: its own offset, on the main axis with its parent's added
 abbrev pub markFrom : Bool → ℤ → ℤ → ℤ
@@ -53,7 +54,7 @@ module _ (d : Direction) (l : List Slot) (i j : ℕ) where
   -- a mark: both offsets written, x then y
   pub joined-mark : {x y x′ y′ : ℤ} {l₁ l₂ : List Slot} → i < length l → slot l i .attachType ≡ 1
       → x ≡ markFrom (isMain d X) (offset X (slot l i)) (offset X (slot l j)) → y ≡ markFrom (isMain d Y) (offset Y (slot l i)) (offset Y (slot l j))
-      → (x′ ≡ walked d X l i j x) × (y′ ≡ walked d Y l i j y)
+      → Walked d l i j x y x′ y′
       → l₁ ≡ update i (withMeasure Offset X x′) l → l₂ ≡ update i (withMeasure Offset Y y′) l₁ → l₂ ≡ joined d l i j
   unfolding joined
   joined-mark {x′ = x′} {y′ = y′} lt t x-is y-is to one two =
