@@ -1,12 +1,13 @@
 -- An outcome leaves one answer and one line, and how a call reaches it. Assumes nothing.
-use mathlib.Core.Path.{_≡_, refl, sym, _∙_}
-use mathlib.Core.Bool.{Bool, true, false, not, _||_}
+use mathlib.Core.Path.{_≡_, sym, _∙_}
+use mathlib.Core.Bool.{false, not}
 use mathlib.Core.List.{List}
 use Prim.Native.Nat.{ℕ, _*_, _%_}
 use lib.Dec.{eqb, ltb}
 use lib.ListN.{length}
-use borrow.Author.Tests.{eqb-true}
+use borrow.Author.Tests.{eqb-true, not-false}
 use Rattle.ints.specs.BigEndian.{Bytes}
+use Rattle.ints.proofs.TestLaws.{or-false}
 use Rattle.slots.specs.Slot.{Slot, slotSize}
 use Rattle.slots.specs.Line.{bytes, slots}
 use Rattle.slots.specs.Checks.{misshapen, mostSlots}
@@ -21,11 +22,9 @@ one-outcome saying tells l s ss l₁ l₂ r₁ r₂ p q = (tells r₁ r₂ (p .a
 
 -- a line that isn't misshapen is whole slots
 pub shapely : (l : List ℕ) → misshapen l ≡ false → length l % slotSize ≡ 0
-shapely l e = eqb-true (length l % slotSize) 0 (left (eqb (length l % slotSize) 0) (ltb (mostSlots * slotSize) (length l)) e)
-  where
-    left : (a b : Bool) → not a || b ≡ false → a ≡ true
-    left true b e = refl
-    left false b e = sym e
+shapely l e =
+    let whole = eqb (length l % slotSize) 0 in
+    eqb-true (length l % slotSize) 0 (not-false whole (or-false (not whole) (ltb (mostSlots * slotSize) (length l)) e .0))
 
 -- what slots a whole line has afterwards decides its bytes
 pub changed : (l l′ : List ℕ) (ss : List Slot) → misshapen l ≡ false → Bytes l′ → length l′ ≡ length l → slots l′ ≡ ss → l′ ≡ bytes ss

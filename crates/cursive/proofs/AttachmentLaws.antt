@@ -13,6 +13,7 @@ use Rattle.ints.specs.Signed.{InBytes, signed, val}
 use Rattle.ints.proofs.SaturatingLaws.{negated-exact}
 use Rattle.ints.proofs.SignedLaws.{signed-same}
 use Rattle.ints.proofs.SizeLaws.{mag-abs}
+use Rattle.ints.proofs.TestLaws.{and-left, and-right, clash}
 use Rattle.slots.specs.Slot.{Slot}
 use Rattle.slots.specs.Line.{slot, update}
 use Rattle.slots.specs.Fields.{advance, attached, offset, withChain, withMeasure}
@@ -22,7 +23,6 @@ use Rattle.slots.proofs.LineLaws.{update-as, update-both, update-same}
 use Rattle.slots.specs.Axis.{cross, main}
 use Rattle.slots.specs.declared.axis.Direction.{Direction}
 use Rattle.tables.specs.Anchor.{Spot}
-use Rattle.tables.proofs.SpansLaws.{and-left, and-right}
 use Rattle.cursive.specs.Attachment.{crossed, ended, hung, joinedAt, previousJoined, pulled, rightToLeft, sameAs, scaledAt, separatedBy, thisJoined, tied}
 use Rattle.cursive.specs.Chains.{chainTo}
 use Rattle.cursive.specs.Reversal.{reversed}
@@ -49,8 +49,8 @@ same-self (negsuc n) = simp (le-leb n n (omega arith))
 
 same-eq : (z w : ℤ) → sameAs z w ≡ true → z ≡ w
 same-eq (pos a) (pos b) e = ap pos (omega (arith, leb-true a b (and-left _ _ e), leb-true b a (and-right (leb a b) _ e)))
-same-eq (pos a) (negsuc b) e = let z : _≡_ {A = ℕ} 0 1 = cc in absurd (omega arith)
-same-eq (negsuc a) (pos b) e = let z : _≡_ {A = ℕ} 0 1 = cc in absurd (omega arith)
+same-eq (pos a) (negsuc b) e = clash (cc)
+same-eq (negsuc a) (pos b) e = clash (cc)
 same-eq (negsuc a) (negsuc b) e = ap negsuc (omega (arith, leb-true b a (and-left _ _ e), leb-true a b (and-right (leb b a) _ e)))
 
 same-ne : (z w : ℤ) → (z ≡ w → ⊥) → sameAs z w ≡ false

@@ -11,6 +11,7 @@ use borrow.Author.Tests.{eq-eqb, le-ltb, lt-leb, lt-ltb, ne-eqb}
 use Rattle.ints.specs.BigEndian.{Bytes, natAt}
 use Rattle.ints.specs.Choice.{if_then_else_}
 use Rattle.ints.proofs.BigEndianLaws.{bytes-drop}
+use Rattle.ints.proofs.TestLaws.{and-left, and-right}
 use Rattle.slots.specs.Slot.{Slot}
 use Rattle.tables.specs.AnchorRows.{rowsOf}
 use Rattle.tables.specs.Coverage.{coverageGoodAt}
@@ -19,7 +20,6 @@ use Rattle.tables.specs.Part.{childOf, offsetThere, tableAt}
 use Rattle.tables.specs.declared.anchor_rows.Rows.{Rows}
 use Rattle.tables.specs.declared.anchor_rows.Rows.the-variants.{Of, Absent}
 use Rattle.tables.proofs.HeaderLaws.{one-format}
-use Rattle.tables.proofs.SpansLaws.{and-left, and-right}
 use Rattle.marks.specs.MarkPos.{missing, empty, anchorsFor, classCount, componentIndex, markAt, marksGood, noComponent, rowFor, rowless, rowTable, withMark, withRows}
 use Rattle.marks.specs.declared.subtable.Kind.{Kind}
 use Rattle.marks.specs.declared.subtable.Kind.the-variants.{Base, Ligature}

@@ -11,8 +11,9 @@ use lib.Dec.{leb}
 use lib.ListN.{length}
 use borrow.Author.Tests.{eq-eqb, leb-true, ne-eqb}
 use Rattle.ints.specs.BigEndian.{natAt}
+use Rattle.ints.proofs.TestLaws.{and-right}
 use Rattle.tables.specs.Spans.{Span}
-use Rattle.tables.proofs.SpansLaws.{Apart, Between, and-right, at-start, go-down, go-up, row-in, side}
+use Rattle.tables.proofs.SpansLaws.{Apart, Between, at-start, go-down, go-up, row-in, side}
 use Rattle.pair.specs.PairSet.{Ascending, firstWith, foundAt, middle, plain, probe, probeIn, recordAt, secondGlyph, whole}
 use Rattle.pair.specs.declared.pair_set.Probe.{Probe}
 use Rattle.pair.specs.declared.pair_set.Probe.the-variants.{Found, Nothing}

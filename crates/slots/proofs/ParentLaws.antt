@@ -9,6 +9,7 @@ use lib.IntN.{ℤ, pos, negsuc, _+ℤ_, _-ℤ_}
 use lib.ListN.{length, List·getD-eq-default}
 use Rattle.ints.specs.Signed.{signed, val}
 use Rattle.ints.proofs.Ints.{bal, bal-add, by-sign, diff, eq-diff, eq-in, pos-add-diff, pos-diff, same, sub-pos}
+use Rattle.ints.proofs.TestLaws.{clash}
 use Rattle.slots.specs.Slot.{Slot, noSlot}
 use Rattle.slots.specs.Line.{slot, update}
 use Rattle.slots.specs.Fields.{withChain}
@@ -19,10 +20,10 @@ use Rattle.slots.proofs.LineLaws.{length-update, update-other, update-s
 
 -- ---- the three kinds are apart: where there is no parent in the line, a chain ends
 pub none-ends : {p : Parent} → p ≡ None → (j : ℕ) → p ≡ At j → ⊥
-none-ends e j f = let z : _≡_ {A = ℕ} 0 1 = cc in omega arith
+none-ends e j f = clash (cc)
 
 pub outside-ends : {p : Parent} → p ≡ Outside → (j : ℕ) → p ≡ At j → ⊥
-outside-ends e j f = let z : _≡_ {A = ℕ} 0 1 = cc in omega arith
+outside-ends e j f = clash (cc)
 
 -- ---- a parent in the line: it and its child are in the line, and the chain is the distance
 placed-at : (n : ℕ) (z : ℤ) (j : ℕ) → placed n z ≡ At j → (j < n) × (z ≡ pos j)
@@ -76,8 +77,8 @@ placed-some n (pos k) e = go (decLt k n)
   where
     go : Dec (k < n) → ⊥
     go (yes lt) = let f : At k ≡ None = rw (lt-ltb k n lt) at e in none-ends f k refl
-    go (no ge) = let f : Outside ≡ None = rw (le-ltb k n (omega arith)) at e in let z : _≡_ {A = ℕ} 0 1 = cc in omega arith
-placed-some n (negsuc k) e = let z : _≡_ {A = ℕ} 0 1 = cc in omega arith
+    go (no ge) = let f : Outside ≡ None = rw (le-ltb k n (omega arith)) at e in clash (cc)
+placed-some n (negsuc k) e = clash (cc)
 
 none-zero : (n i : ℕ) (c : ℤ) → parentBy n i c ≡ None → c ≡ pos 0
 none-zero n i (pos zero) e = refl
@@ -94,7 +95,7 @@ parent-none l i e = rw e
 
 -- a slot with a parent, in the line or outside it, is attached
 pub outside-hangs : (l : List Slot) (i : ℕ) → parent l i ≡ Outside → slot l i .chain ≡ pos 0 → ⊥
-outside-hangs l i e z = let f = parent-none l i z in let w : _≡_ {A = ℕ} 0 1 = cc in omega arith
+outside-hangs l i e z = let f = parent-none l i z in clash (cc)
 
 pub at-hangs : (l : List Slot) (i j : ℕ) → parent l i ≡ At j → slot l i .chain ≡ pos 0 → ⊥
 at-hangs l i j e z = none-ends (parent-none l i z) j e

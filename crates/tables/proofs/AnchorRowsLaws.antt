@@ -10,6 +10,7 @@ use lib.ListN.{length}
 use Rattle.ints.specs.BigEndian.{Bytes, natAt}
 use Rattle.ints.specs.Choice.{if_then_else_}
 use Rattle.ints.proofs.BigEndianLaws.{natAt-fits}
+use Rattle.ints.proofs.TestLaws.{clash}
 use Rattle.tables.specs.AnchorRows.{rowsOf}
 use Rattle.tables.specs.declared.anchor_rows.Rows.the-variants.{Of, Absent}
 
@@ -30,4 +31,4 @@ rows-few t columns n b e =
   where
     known : (there : Bool) (m n : ℕ) → (if there then Of m else Absent) ≡ Of n → m ≡ n
     known true m n e = cc
-    known false m n e = let z : _≡_ {A = ℕ} 0 1 = cc in absurd (omega arith)
+    known false m n e = clash (cc)

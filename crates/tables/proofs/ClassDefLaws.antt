@@ -8,9 +8,9 @@ use lib.Dec.{leb}
 use lib.ListN.{length}
 use borrow.Author.Tests.{eq-eqb, le-leb, le-ltb, leb-true, lt-leb, lt-ltb, ne-eqb}
 use Rattle.ints.specs.BigEndian.{natAt}
+use Rattle.ints.proofs.TestLaws.{and-left, and-right}
 use Rattle.tables.specs.Spans.{firstHolding, rangeSpans}
 use Rattle.tables.specs.ClassDef.{classGood, classOf}
-use Rattle.tables.proofs.SpansLaws.{and-left, and-right}
 use Rattle.tables.proofs.CoverageLaws.{one-good}
 
 -- the array of a list of format 1 that passed the check

@@ -4,16 +4,16 @@ use mathlib.Core.Path.{_≡_, refl}
 use mathlib.Core.Bool.{Bool, true, false, _&&_}
 use mathlib.Core.List.{List}
 use Prim.Native.Nat.{ℕ, _+_, _-_, _*_, _≤_, _<_}
-use native.Mathlib.Omega.{arith}
 use lib.Dec.{eqb, ltb}
 use lib.ListN.{length}
 use borrow.Author.Tests.{eq-eqb, le-ltb, leb-true, lt-ltb, ltb-false, ne-eqb}
 use Rattle.ints.specs.BigEndian.{natAt}
 use Rattle.ints.specs.Choice.{if_then_else_}
+use Rattle.ints.proofs.TestLaws.{and-left, and-right, clash}
 use Rattle.tables.specs.Spans.{ascends, firstHolding, glyphSpans, rangeSpans, spanAt, spans}
 use Rattle.tables.specs.Coverage.{coverageGood, coverageIndex, wholeSpans}
 use Rattle.tables.specs.declared.coverage.Covered.the-variants.{At, Not}
-use Rattle.tables.proofs.SpansLaws.{and-left, and-right, found-starts}
+use Rattle.tables.proofs.SpansLaws.{found-starts}
 
 -- a check by two formats that passes: not cut; and what is asked of the one format, or of the other
 pub record Passed (cut one a b : Bool) : Type 0 where
@@ -22,10 +22,10 @@ pub record Passed (cut one a b : Bool) : Type 0 where
   pub second : one ≡ false → b ≡ true
 
 pub passed : (cut one two a b : Bool) → (if cut then false else (if one then a else (if two then b else false))) ≡ true → Passed cut one a b
-passed true one two a b e = let z : _≡_ {A = ℕ} 0 1 = cc in absurd (omega arith)
-passed false true two a b e = record { not-cut = refl; first = λ o. e; second = λ o. let z : _≡_ {A = ℕ} 0 1 = cc in absurd (omega arith) }
-passed false false true a b e = record { not-cut = refl; first = λ o. let z : _≡_ {A = ℕ} 0 1 = cc in absurd (omega arith); second = λ o. e }
-passed false false false a b e = let z : _≡_ {A = ℕ} 0 1 = cc in absurd (omega arith)
+passed true one two a b e = clash (cc)
+passed false true two a b e = record { not-cut = refl; first = λ o. e; second = λ o. clash (cc) }
+passed false false true a b e = record { not-cut = refl; first = λ o. clash (cc); second = λ o. e }
+passed false false false a b e = clash (cc)
 
 -- n spans that are whole and ascend
 pub record Sound (t : List ℕ) (stride over n : ℕ) : Type 0 where

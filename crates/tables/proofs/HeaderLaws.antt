@@ -7,8 +7,8 @@ use lib.Dec.{eqb, leb}
 use lib.ListN.{length}
 use borrow.Author.Tests.{eqb-true, leb-true, ne-eqb}
 use Rattle.ints.specs.BigEndian.{natAt}
+use Rattle.ints.proofs.TestLaws.{and-left, and-right}
 use Rattle.tables.specs.Header.{headerGood, posFormat}
-use Rattle.tables.proofs.SpansLaws.{and-left, and-right}
 
 -- the format is 1 or 2, and the header is whole: it has `one` bytes, and `two` where the format isn't 1
 pub record Header (one two : ℕ) (t : List ℕ) : Type 0 where

@@ -12,6 +12,7 @@ use native.Mathlib.Omega.{arith}
 use lib.Dec.{leb}
 use borrow.Author.Tests.{le-leb, leb-true, lt-leb}
 use Rattle.ints.specs.Choice.{if_then_else_}
+use Rattle.ints.proofs.TestLaws.{and-left, and-right}
 use Rattle.tables.specs.Spans.{Span, ascends, firstHolding, holds, spansFrom}
 
 -- ---- rows of an array
@@ -30,15 +31,6 @@ side i m = go (decLe m i)
     go : Dec (m ≤ i) → (i < m) ⊎ (m ≤ i)
     go (yes h) = inr h
     go (no h) = inl (lt-of-not-le h)
-
--- ---- two tests that both hold
-pub and-left : (a b : Bool) → a && b ≡ true → a ≡ true
-and-left true b e = refl
-and-left false b e = e
-
-pub and-right : (a b : Bool) → a && b ≡ true → b ≡ true
-and-right true b e = e
-and-right false b e = let z : false ≡ true = e in let w : b ≡ true = cc in w
 
 -- ---- ascending lists
 -- the spans from k on, of n in all, taken one off
