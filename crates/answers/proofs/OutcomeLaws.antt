@@ -1,37 +1,30 @@
 -- An outcome leaves one answer and one line, and how a call reaches it. Assumes nothing.
-use mathlib.Core.Path.{_≡_, refl, sym, _∙_}
-use mathlib.Core.Bool.{Bool, true, false, not, _||_}
+use mathlib.Core.Path.{_≡_, sym, _∙_}
+use mathlib.Core.Bool.{false, not}
 use mathlib.Core.List.{List}
 use Prim.Native.Nat.{ℕ, _*_, _%_}
 use lib.Dec.{eqb, ltb}
 use lib.ListN.{length}
-use borrow.Author.Tests.{eqb-true}
+use borrow.Author.Tests.{eqb-true, not-false}
 use Rattle.ints.specs.BigEndian.{Bytes}
+use Rattle.ints.proofs.TestLaws.{or-false}
 use Rattle.slots.specs.Slot.{Slot, slotSize}
 use Rattle.slots.specs.Line.{bytes, slots}
 use Rattle.slots.specs.Checks.{misshapen, mostSlots}
 use Rattle.slots.proofs.LineLaws.{from-slots, same-slots}
-use Rattle.answers.specs.Said.{Said, applied, declined, done, refused, said, saidDone}
+use Rattle.answers.specs.Said.{Said, applied, declined, done, refused}
 use Rattle.answers.specs.Outcome.{Effect, lineAfter, Outcome, slotsAfter}
-use Rattle.answers.specs.declared.Answer.{Answer}
-use Rattle.answers.specs.declared.Done.{Done}
-use Rattle.answers.proofs.SaidLaws.{said-same, saidDone-same}
 
--- two results that meet the same contract are equal, answer and bytes: of an applying call, and of starting and finishing
-module _ (l : List ℕ) (s : Said) (ss : List Slot) (l₁ l₂ : List ℕ) where
-  pub one-answer : (r₁ r₂ : Answer) → Outcome l s ss (said r₁) l₁ → Outcome l s ss (said r₂) l₂ → (r₁ ≡ r₂) × (l₁ ≡ l₂)
-  one-answer r₁ r₂ p q = (said-same r₁ r₂ (p .answer ∙ sym (q .answer)), p .line ∙ sym (q .line))
-
-  pub one-done : (r₁ r₂ : Done) → Outcome l s ss (saidDone r₁) l₁ → Outcome l s ss (saidDone r₂) l₂ → (r₁ ≡ r₂) × (l₁ ≡ l₂)
-  one-done r₁ r₂ p q = (saidDone-same r₁ r₂ (p .answer ∙ sym (q .answer)), p .line ∙ sym (q .line))
+-- two results that meet the same contract are equal, answer and bytes, where an answer is told by what it says: `saying`
+pub one-outcome : {A : Type 0} (saying : A → Said) → ((r q : A) → saying r ≡ saying q → r ≡ q)
+    → (l : List ℕ) (s : Said) (ss : List Slot) (l₁ l₂ : List ℕ) (r₁ r₂ : A) → Outcome l s ss (saying r₁) l₁ → Outcome l s ss (saying r₂) l₂ → (r₁ ≡ r₂) × (l₁ ≡ l₂)
+one-outcome saying tells l s ss l₁ l₂ r₁ r₂ p q = (tells r₁ r₂ (p .answer ∙ sym (q .answer)), p .line ∙ sym (q .line))
 
 -- a line that isn't misshapen is whole slots
 pub shapely : (l : List ℕ) → misshapen l ≡ false → length l % slotSize ≡ 0
-shapely l e = eqb-true (length l % slotSize) 0 (left (eqb (length l % slotSize) 0) (ltb (mostSlots * slotSize) (length l)) e)
-  where
-    left : (a b : Bool) → not a || b ≡ false → a ≡ true
-    left true b e = refl
-    left false b e = sym e
+shapely l e =
+    let whole = eqb (length l % slotSize) 0 in
+    eqb-true (length l % slotSize) 0 (not-false whole (or-false (not whole) (ltb (mostSlots * slotSize) (length l)) e .0))
 
 -- what slots a whole line has afterwards decides its bytes
 pub changed : (l l′ : List ℕ) (ss : List Slot) → misshapen l ≡ false → Bytes l′ → length l′ ≡ length l → slots l′ ≡ ss → l′ ≡ bytes ss

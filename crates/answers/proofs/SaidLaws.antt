@@ -79,9 +79,13 @@ saidDone-back : (r : Done) → unsaidDone (saidDone r) ≡ r
 saidDone-back DoneNow = refl
 saidDone-back (NotDone r) = ap NotDone (refusal-back r)
 
--- two answers that say the same are the same
+-- what can be told from its image is the same where its image is
+from-back : {A B : Type 0} (f : A → B) (g : B → A) → ((x : A) → g (f x) ≡ x) → (x y : A) → f x ≡ f y → x ≡ y
+from-back f g back x y e = sym (back x) ∙ ap g e ∙ back y
+
+-- so two answers that say the same are the same
 pub said-same : (r q : Answer) → said r ≡ said q → r ≡ q
-said-same r q e = sym (said-back r) ∙ ap unsaid e ∙ said-back q
+said-same = from-back said unsaid said-back
 
 pub saidDone-same : (r q : Done) → saidDone r ≡ saidDone q → r ≡ q
-saidDone-same r q e = sym (saidDone-back r) ∙ ap unsaidDone e ∙ saidDone-back q
+saidDone-same = from-back saidDone unsaidDone saidDone-back

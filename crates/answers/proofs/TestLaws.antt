@@ -3,14 +3,14 @@ use mathlib.Core.Path.{_≡_, refl}
 use mathlib.Core.Bool.{Bool, true, false}
 use mathlib.Core.List.{List, [], _∷_, _++_}
 use Prim.Native.Nat.{ℕ}
-use native.Mathlib.Omega.{arith}
 use Rattle.ints.specs.Choice.{if_then_else_}
+use Rattle.ints.proofs.TestLaws.{clash}
 use Rattle.answers.specs.Said.{Said, done, refused, unless}
 
 module _ (b : List (Bool × ℕ)) (s : Said) where
   -- where a first table refuses, the whole one does, with the same number
   pub refused-early : (a : List (Bool × ℕ)) (n : ℕ) → unless a done ≡ refused n → unless (a ++ b) s ≡ refused n
-  refused-early [] n e = let z : _≡_ {A = ℕ} 0 1 = cc in absurd (omega arith)
+  refused-early [] n e = clash (cc)
   refused-early (t ∷ a) n e = go (t .0) e (refused-early a n)
     where
       go : (c : Bool) → (if c then refused (t .1) else unless a done) ≡ refused n → (unless a done ≡ refused n → unless (a ++ b) s ≡ refused n)
@@ -25,12 +25,12 @@ module _ (b : List (Bool × ℕ)) (s : Said) where
     where
       go : (c : Bool) → (if c then refused (t .1) else unless a done) ≡ done → (unless a done ≡ done → unless (a ++ b) s ≡ unless b s)
           → (if c then refused (t .1) else unless (a ++ b) s) ≡ unless b s
-      go true f rest = let z : _≡_ {A = ℕ} 0 1 = cc in absurd (omega arith)
+      go true f rest = clash (cc)
       go false f rest = rest f
 
 -- a table that doesn't refuse: its first test does not hold, and the rest doesn't refuse
 pub clear-first : (t : Bool) (n : ℕ) (a : List (Bool × ℕ)) → unless ((t, n) ∷ a) done ≡ done → (t ≡ false) × (unless a done ≡ done)
-clear-first true n a e = let z : _≡_ {A = ℕ} 0 1 = cc in absurd (omega arith)
+clear-first true n a e = clash (cc)
 clear-first false n a e = (refl, e)
 
 -- a table that doesn't refuse: no part of it does
@@ -40,5 +40,5 @@ clear-parts (t ∷ a) b e = go (t .0) e (clear-parts a b)
   where
     go : (c : Bool) → (if c then refused (t .1) else unless (a ++ b) done) ≡ done → (unless (a ++ b) done ≡ done → (unless a done ≡ done) × (unless b done ≡ done))
         → ((if c then refused (t .1) else unless a done) ≡ done) × (unless b done ≡ done)
-    go true f rest = let z : _≡_ {A = ℕ} 0 1 = cc in absurd (omega arith)
+    go true f rest = clash (cc)
     go false f rest = rest f

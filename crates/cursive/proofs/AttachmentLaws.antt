@@ -9,10 +9,11 @@ use lib.Dec.{leb}
 use lib.IntN.{ℤ, pos, negsuc, negℤ}
 use lib.ListN.{length}
 use Rattle.ints.specs.Saturating.{less, negated, plus}
-use Rattle.ints.specs.Signed.{InBytes, pattern, signed, val}
+use Rattle.ints.specs.Signed.{InBytes, signed, val}
 use Rattle.ints.proofs.SaturatingLaws.{negated-exact}
-use Rattle.ints.proofs.SignedLaws.{pattern-signed}
+use Rattle.ints.proofs.SignedLaws.{signed-same}
 use Rattle.ints.proofs.SizeLaws.{mag-abs}
+use Rattle.ints.proofs.TestLaws.{and-left, and-right, clash}
 use Rattle.slots.specs.Slot.{Slot}
 use Rattle.slots.specs.Line.{slot, update}
 use Rattle.slots.specs.Fields.{advance, attached, offset, withChain, withMeasure}
@@ -22,7 +23,6 @@ use Rattle.slots.proofs.LineLaws.{update-as, update-both, update-same}
 use Rattle.slots.specs.Axis.{cross, main}
 use Rattle.slots.specs.declared.axis.Direction.{Direction}
 use Rattle.tables.specs.Anchor.{Spot}
-use Rattle.tables.proofs.SpansLaws.{and-left, and-right}
 use Rattle.cursive.specs.Attachment.{crossed, ended, hung, joinedAt, previousJoined, pulled, rightToLeft, sameAs, scaledAt, separatedBy, thisJoined, tied}
 use Rattle.cursive.specs.Chains.{chainTo}
 use Rattle.cursive.specs.Reversal.{reversed}
@@ -49,8 +49,8 @@ same-self (negsuc n) = simp (le-leb n n (omega arith))
 
 same-eq : (z w : ℤ) → sameAs z w ≡ true → z ≡ w
 same-eq (pos a) (pos b) e = ap pos (omega (arith, leb-true a b (and-left _ _ e), leb-true b a (and-right (leb a b) _ e)))
-same-eq (pos a) (negsuc b) e = let z : _≡_ {A = ℕ} 0 1 = cc in absurd (omega arith)
-same-eq (negsuc a) (pos b) e = let z : _≡_ {A = ℕ} 0 1 = cc in absurd (omega arith)
+same-eq (pos a) (negsuc b) e = clash (cc)
+same-eq (negsuc a) (pos b) e = clash (cc)
 same-eq (negsuc a) (negsuc b) e = ap negsuc (omega (arith, leb-true b a (and-left _ _ e), leb-true a b (and-right (leb b a) _ e)))
 
 same-ne : (z w : ℤ) → (z ≡ w → ⊥) → sameAs z w ≡ false
@@ -60,20 +60,16 @@ same-ne z w ne = go (sameAs z w) refl
     go true e = absurd (ne (same-eq z w e))
     go false e = e
 
--- code compares patterns: one for each integer
-val-same : (v w : ℕ) → v < 4294967296 → w < 4294967296 → val v ≡ val w → v ≡ w
-val-same v w h k e = sym (pattern-signed 4 v h) ∙ ap (pattern 4) e ∙ pattern-signed 4 w k
-
 module _ (a : Axis) (parent : ℕ) (ss : List Slot) (chain here back : ℕ) (small : InBytes 2 (val chain)) (here-is : val here ≡ slot ss parent .chain)
     (back-is : val back ≡ negated (val chain)) where
   -- the negation of a number of 16 bits is exact
   back-exact : val back ≡ negℤ (val chain)
   back-exact = back-is ∙ negated-exact (val chain) (omega (arith, mag-abs (val chain)))
 
-  -- the parent hangs on something else, or on nothing
+  -- the parent hangs on something else, or on nothing: code compares patterns, one for each integer
   pub stays : here < 4294967296 → back < 4294967296 → (here ≡ back → ⊥) → ss ≡ separatedBy a (val chain) parent ss
   unfolding separatedBy
-  stays h k ne = simp (same-ne (slot ss parent .chain) (negℤ (val chain)) (λ e. ne (val-same here back h k (here-is ∙ e ∙ sym back-exact))))
+  stays h k ne = simp (same-ne (slot ss parent .chain) (negℤ (val chain)) (λ e. ne (signed-same 4 here back h k (here-is ∙ e ∙ sym back-exact))))
 
   -- it was attached to the child
   pub separates : {ss₁ ss₂ : List Slot} → parent < length ss → here ≡ back → ss₁ ≡ update parent (withMeasure Offset a (val 0)) ss

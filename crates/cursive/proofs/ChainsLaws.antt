@@ -10,10 +10,10 @@ use lib.IntN.{ℤ, pos, negsuc, natAbs, negℤ}
 use lib.ListN.{length}
 use lib.Signed.{mag}
 use Rattle.ints.specs.Saturating.{negated}
-use Rattle.ints.specs.Signed.{InBytes, pattern, signed, val}
+use Rattle.ints.specs.Signed.{InBytes, signed, val}
 use Rattle.ints.proofs.Ints.{by-sign, diff, sub-pos}
 use Rattle.ints.proofs.SaturatingLaws.{negated-exact}
-use Rattle.ints.proofs.SignedLaws.{pattern-signed, signed-low}
+use Rattle.ints.proofs.SignedLaws.{signed-low, signed-same}
 use Rattle.slots.specs.Slot.{Slot}
 use Rattle.slots.specs.Line.{update}
 use Rattle.slots.specs.Fields.{attached, withByte, withChain, withMeasure}
@@ -64,7 +64,12 @@ pub back-least : (val 0 ≡ reach (negℤ (val 4294934528))) × InBytes 2 (val 0
 unfolding signed
 back-least = (refl, omega arith)
 
--- any other number of 16 bits has
+-- which code knows by its pattern
+least-bits : (v : ℕ) → v < 4294967296 → val v ≡ negsuc 32767 → v ≡ 4294934528
+unfolding signed
+least-bits v h e = signed-same 4 v 4294934528 h (omega arith) e
+
+-- any other number of 16 bits has one
 neg-fits : (z : ℤ) → natAbs z ≤ 32768 → (z ≡ negsuc 32767 → ⊥) → mag (negℤ z) < 32768
 neg-fits (pos zero) h ne = omega arith
 neg-fits (pos (suc n)) h ne = omega arith
@@ -75,10 +80,8 @@ neg-fits (negsuc n) h ne =
 -- and code's negation of it does not saturate
 pub back-other : (v r : ℕ) → v < 4294967296 → (v ≡ 4294934528 → ⊥) → natAbs (val v) ≤ 32768 → val r ≡ negated (val v)
     → (val r ≡ reach (negℤ (val v))) × InBytes 2 (val r)
-unfolding pattern
 back-other v r lt ne h e =
-    let other : val v ≡ negsuc 32767 → ⊥ = λ q. ne (sym (pattern-signed 4 v lt) ∙ ap (pattern 4) q) in
-    let m : mag (negℤ (val v)) < 32768 = neg-fits (val v) h other in
+    let m : mag (negℤ (val v)) < 32768 = neg-fits (val v) h (λ q. ne (least-bits v lt q)) in
     let is : val r ≡ negℤ (val v) = e ∙ negated-exact (val v) (omega arith) in
     (is ∙ sym (reach-near (negℤ (val v)) m), rw is m)
 

@@ -14,13 +14,13 @@ use Rattle.answers.specs.declared.Neighbour.{Neighbour}
 use Rattle.cursive.specs.Attachment.{joinedAt, planned}
 use Rattle.cursive.specs.CursivePos.{fromCovered, indexOf, join, Plan, planOf, planSaid, stop}
 
--- what holds of the case that was told of x holds of x
+-- a match told that x is y: the result for y is that for x
 pub told : {A B : Type 0} (f : A → B) {x y : A} {r : B} → x ≡ y → r ≡ f y → r ≡ f x
 told f e l = l ∙ sym (ap f e)
 
--- what a callee found, y, stands for x
+-- a callee found y, which is x: likewise
 pub found : {A B : Type 0} (f : A → B) {x y : A} {r : B} → y ≡ x → r ≡ f y → r ≡ f x
-found f e l = l ∙ ap f e
+found f e l = told f (sym e) l
 
 -- the plan goes by the coverage that code found for the glyph that it read
 pub plan-is : (t : List ℕ) (ss : List Slot) (idx : ℕ) (n : Neighbour) {g : ℕ} {was q : Covered} {r : Plan} → g ≡ slot ss idx .glyph → was ≡ indexOf t g → was ≡ q

@@ -1,4 +1,4 @@
--- Sums worked by hand, computed from the definitions: reversals, and the case from bottom to top. Assumes nothing.
+-- Sums worked by hand, computed from the definitions: reversals, joins in other directions, plans, and the ends of a chain. Assumes nothing.
 use mathlib.Core.List.{List, [], _∷_}
 use mathlib.Core.Path.{_≡_, refl}
 use Prim.Native.Nat.{ℕ}

@@ -3,14 +3,15 @@ use mathlib.Core.Bool.{Bool, true, false, not}
 use mathlib.Core.List.{List}
 use mathlib.Core.Path.{_≡_, refl, sym, ap, _∙_}
 use Prim.Native.Nat.{ℕ, zero, suc, _<_}
-use native.Mathlib.Omega.{arith}
 use borrow.Author.Tests.{eq-eqb, ne-eqb}
 use lib.Dec.{eqb}
-use lib.IntN.{ℤ, pos, negsuc, natAbs, negℤ}
+use lib.IntN.{ℤ, natAbs, negℤ}
 use lib.ListN.{length}
 use Rattle.ints.specs.Choice.{if_then_else_}
 use Rattle.ints.specs.Saturating.{negated}
 use Rattle.ints.specs.Signed.{val}
+use Rattle.ints.proofs.SizeLaws.{abs-zero}
+use Rattle.ints.proofs.TestLaws.{clash}
 use Rattle.slots.specs.Slot.{Slot}
 use Rattle.slots.specs.Line.{slot, update}
 use Rattle.slots.specs.Fields.{attached, cursiveBit, offset, withChain, withMeasure}
@@ -31,11 +32,6 @@ unfolding turned
 length-turned a was ss i j = length-update j _ ss
 
 -- ---- the measure
--- an integer of size 0 is 0
-abs-zero : (z : ℤ) → natAbs z ≡ 0 → z ≡ pos 0
-abs-zero (pos n) e = ap pos e
-abs-zero (negsuc n) e = absurd (omega arith)
-
 -- the slot has a chain
 abbrev chained : Slot → Bool
 chained s = not (eqb (natAbs (s .chain)) 0)
@@ -108,11 +104,11 @@ module _ (a : Axis) (ss : List Slot) (i p : ℕ) where
     pub reversed-outside : parent ss i ≡ Outside → reversed a ss i p ≡ cleared ss i
     unfolding reversed reversedIn
     reversed-outside e =
-        rw (fuel Outside e (λ n. let z : _≡_ {A = ℕ} 0 1 = cc in omega arith)) (simp (bit, e))
+        rw (fuel Outside e (λ n. clash (cc))) (simp (bit, e))
 
     module _ (j : ℕ) (e : parent ss i ≡ At j) where
       fuel-at : attachedCount ss ≡ suc (attachedCount (cleared ss i))
-      fuel-at = fuel (At j) e (λ n. let z : _≡_ {A = ℕ} 0 1 = cc in omega arith)
+      fuel-at = fuel (At j) e (λ n. clash (cc))
 
       -- the new parent: the chain is cleared
       pub reversed-new : j ≡ p → reversed a ss i p ≡ cleared ss i

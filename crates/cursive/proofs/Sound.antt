@@ -17,6 +17,7 @@ use Rattle.slots.specs.declared.axis.Axis.the-variants.{X, Y}
 use Rattle.slots.specs.declared.fields.Measure.the-variants.{Offset}
 use Rattle.slots.specs.declared.parent.Parent.the-variants.{None, At}
 use Rattle.slots.proofs.ChainLaws.{near-fits}
+use Rattle.slots.proofs.FieldLaws.{measure-chain}
 use Rattle.slots.proofs.LineLaws.{update-other, update-same}
 use Rattle.slots.proofs.ParentLaws.{chain-is, chain-zero, cleared-count, cleared-other, cleared-own, parent-in-line, parent-is, parent-same}
 use Rattle.cursive.specs.Chains.{reach}
@@ -99,13 +100,7 @@ module _ (ss : List Slot) (i : ℕ) where
         chain-kept k js (out .1) (on .1),
       )
 
--- ---- a slot whose chain is changed
--- keeps its offset
-offset-kept : (a : Axis) (c : ℤ) (s : Slot) → offset a (withChain c s) ≡ offset a s
-offset-kept X c s = refl
-offset-kept Y c s = refl
-
--- and is the same once it is hung
+-- ---- a slot whose chain is changed is the same once it is hung
 hung-again : (a : Axis) (t : ℕ) (c d z : ℤ) (s : Slot) → _≡_ {A = Slot} (attached t c (withMeasure Offset a z (withChain d s))) (attached t c (withMeasure Offset a z s))
 hung-again X t c d z s = refl
 hung-again Y t c d z s = refl
@@ -153,7 +148,7 @@ module _ (a : Axis) (ss : List Slot) (i j : ℕ) (js : List ℕ) (r : List Slot)
   on-parent =
       let in-line : j < length r = rw (rest .count-kept, cleared-count ss i) (parent-in-line ss i j (chain .0 .hangs-on)) in
       update-same j _ r in-line
-      ∙ rw (child-after, offset-kept a (pos 0) (slot ss i), rest .first-freed, cleared-other ss i j (λ e. apart .0 .0 (sym e)), hung-again a (slot ss i .attachType))
+      ∙ rw (child-after, measure-chain Offset a (pos 0) (slot ss i), rest .first-freed, cleared-other ss i j (λ e. apart .0 .0 (sym e)), hung-again a (slot ss i .attachType))
 
   -- while the rest stays turned
   on-rest : (c : ℕ) (ks : List ℕ) → Apart i (c ∷ ks) → Apart j ks → AllTurned a (cleared ss i) r c ks → AllTurned a ss on c ks

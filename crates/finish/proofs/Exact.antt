@@ -4,7 +4,7 @@ use mathlib.Core.List.{List}
 use mathlib.Core.Path.{_≡_, refl, ap, _∙_}
 use Prim.Native.Nat.{ℕ, suc, _+_, _*_, _≤_, _<_}
 use native.Mathlib.Omega.{arith}
-use lib.IntN.{ℤ, negℤ, natAbs, _+ℤ_, _-ℤ_}
+use lib.IntN.{ℤ, pos, negℤ, natAbs, _+ℤ_, _-ℤ_}
 use lib.ListN.{length, length-map}
 use Rattle.ints.specs.Sums.{Near}
 use Rattle.ints.proofs.Ints.{bal-add, bal-neg, omegaℤ}
@@ -17,6 +17,8 @@ use Rattle.slots.specs.Fields.{advance, offset}
 use Rattle.slots.specs.declared.axis.Axis.{Axis}
 use Rattle.slots.specs.declared.axis.Axis.the-variants.{X, Y}
 use Rattle.slots.specs.declared.axis.Direction.{Direction}
+use Rattle.slots.specs.declared.fields.Measure.the-variants.{Offset}
+use Rattle.slots.proofs.FieldLaws.{measure-chain}
 use Rattle.slots.proofs.ParentLaws.{parent-in-line}
 use Rattle.finish.specs.Finish.{advances, free, isMain, Kind, mark, cursive, neither, kindOf, taken, walked, withOffsets}
 use Rattle.finish.specs.Demand3.{Bounded, pen}
@@ -45,16 +47,13 @@ onto d l i j s = withOffsets (exactOffset d l i j s X) (exactOffset d l i j s Y)
 abbrev pub final : Direction → List Slot → ℕ → ℕ → Slot
 final d l n i = along l (λ k. free (slot l k)) (onto d l) n i
 
--- the offsets of both, on either axis
+-- its offset on either axis
 pub offset-onto : (d : Direction) (l : List Slot) (i j : ℕ) (s : Slot) (a : Axis) → offset a (onto d l i j s) ≡ exactOffset d l i j s a
 offset-onto d l i j s X = refl
 offset-onto d l i j s Y = refl
 
-pub offset-free : (s : Slot) (a : Axis) → offset a (free s) ≡ offset a s
-offset-free s X = refl
-offset-free s Y = refl
-
 -- ---- bounds
+-- an offset o at the pen place p, drawn near q, is bounded by q, p and how near that is
 around : (p o q : ℤ) → natAbs o ≤ natAbs q + natAbs p + natAbs ((p +ℤ o) -ℤ q)
 around p o q =
     let e : o ≡ (((p +ℤ o) -ℤ q) +ℤ q) -ℤ p = omega (omegaℤ, bal-add p o, bal-add (p +ℤ o) (negℤ q), bal-neg q, bal-add ((p +ℤ o) -ℤ q) q, bal-add (((p +ℤ o) -ℤ q) +ℤ q) (negℤ p), bal-neg p) in
@@ -122,7 +121,7 @@ module _ (d : Direction) (limit : ℕ) (l : List Slot) (ok : Bounded limit l) wh
   anchored : (a : Axis) → isMain d a ≡ true → (n i : ℕ) → i < length l → Anchored (pen d a l i) (offset a (final d l n i)) n
   anchored a m =
       along-holds l (λ k. free (slot l k)) (onto d l) (λ n i s. i < length l → Anchored (pen d a l i) (offset a s) n)
-      (λ n i lt. rw (offset-free (slot l i) a) (anchored-own a n i lt))
+      (λ n i lt. rw (measure-chain Offset a (pos 0) (slot l i)) (anchored-own a n i lt))
       (λ n i j s e up lt. rw (offset-onto d l i j s a, m) (anchored-on a n i j lt (kindOf (slot l i .attachType)) (offset a s) (up (parent-in-line l i j e))))
 
   -- across the line each hop adds one offset at most, or starts from two pen places
@@ -144,7 +143,7 @@ module _ (d : Direction) (limit : ℕ) (l : List Slot) (ok : Bounded limit l) wh
   small : (a : Axis) → isMain d a ≡ false → (n i : ℕ) → i < length l → natAbs (offset a (final d l n i)) ≤ suc n * 524288 + 1073741824
   small a m =
       along-holds l (λ k. free (slot l k)) (onto d l) (λ n i s. i < length l → natAbs (offset a s) ≤ suc n * 524288 + 1073741824)
-      (λ n i lt. rw (offset-free (slot l i) a) (omega (arith, ok .offsets-near i a lt)))
+      (λ n i lt. rw (measure-chain Offset a (pos 0) (slot l i)) (omega (arith, ok .offsets-near i a lt)))
       (λ n i j s e up lt. rw (offset-onto d l i j s a, m) (small-on a n i j lt (kindOf (slot l i .attachType)) (offset a s) (up (parent-in-line l i j e))))
 
   -- 65 times 524,288, and two pen places

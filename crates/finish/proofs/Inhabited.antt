@@ -23,8 +23,8 @@ use Rattle.finish.proofs.Theorem.{demand3}
 -- the base ends its chain, and each hop to the slot before is one more
 base : (n : ℕ) → EndsWithin example n 0
 unfolding parent
-base zero = none-ends example 0 refl
-base (suc n) = λ j e. absurd (none-ends example 0 refl j e)
+base zero = none-ends refl
+base (suc n) = λ j e. absurd (none-ends refl j e)
 
 one-hop : (n i k : ℕ) → parent example i ≡ At k → EndsWithin example n k → EndsWithin example (suc n) i
 one-hop n i k p h = λ j e. let same : k ≡ j = cc in subst (EndsWithin example n) same h

@@ -5,11 +5,10 @@ use mathlib.Core.Path.{_≡_, refl, sym, ap, ap₂, _∙_}
 use Prim.Native.Nat.{ℕ, zero, suc, _<_}
 use lib.IntN.{ℤ}
 use lib.ListN.{length, set}
-use lib.Seq.{set-getD}
 use Rattle.ints.specs.Choice.{if_then_else_}
 use Rattle.ints.specs.Saturating.{plus}
 use Rattle.slots.specs.Axis.{cross}
-use Rattle.slots.specs.Slot.{Slot, noSlot}
+use Rattle.slots.specs.Slot.{Slot}
 use Rattle.slots.specs.Line.{slot, update}
 use Rattle.slots.specs.Fields.{offset, withMeasure}
 use Rattle.slots.specs.declared.axis.Axis.{Axis}
@@ -17,14 +16,15 @@ use Rattle.slots.specs.declared.axis.Axis.the-variants.{X, Y}
 use Rattle.slots.specs.declared.axis.Direction.{Direction}
 use Rattle.slots.specs.declared.axis.Direction.the-variants.{LeftToRight, RightToLeft, TopToBottom, BottomToTop}
 use Rattle.slots.specs.declared.fields.Measure.the-variants.{Offset}
-use Rattle.slots.proofs.LineLaws.{update-both}
+use Rattle.slots.proofs.LineLaws.{update-both, update-none}
 use Rattle.finish.specs.Finish.{isMain, joined, mark, cursive, neither, kindOf, newOffset, taken, walked, withOffsets}
+use Rattle.finish.proofs.WalkLaws.{Walked}
 
 -- what a mark walks from: its own offset, on the main axis with its parent's added
 abbrev pub markFrom : Bool → ℤ → ℤ → ℤ
 markFrom main? own parents = if main? then plus own parents else own
 
--- a mark takes it in so
+-- on either axis a mark walks from there
 mark-taken : (main? : Bool) (walk : ℤ → ℤ) (own parents : ℤ) → taken mark main? walk own parents ≡ walk (markFrom main? own parents)
 mark-taken true walk own parents = refl
 mark-taken false walk own parents = refl
@@ -54,7 +54,7 @@ module _ (d : Direction) (l : List Slot) (i j : ℕ) where
   -- a mark: both offsets written, x then y
   pub joined-mark : {x y x′ y′ : ℤ} {l₁ l₂ : List Slot} → i < length l → slot l i .attachType ≡ 1
       → x ≡ markFrom (isMain d X) (offset X (slot l i)) (offset X (slot l j)) → y ≡ markFrom (isMain d Y) (offset Y (slot l i)) (offset Y (slot l j))
-      → (x′ ≡ walked d X l i j x) × (y′ ≡ walked d Y l i j y)
+      → Walked d l i j x y x′ y′
       → l₁ ≡ update i (withMeasure Offset X x′) l → l₂ ≡ update i (withMeasure Offset Y y′) l₁ → l₂ ≡ joined d l i j
   unfolding joined
   joined-mark {x′ = x′} {y′ = y′} lt t x-is y-is to one two =
@@ -72,4 +72,4 @@ module _ (d : Direction) (l : List Slot) (i j : ℕ) where
   -- any other: nothing
   pub joined-other-type : (slot l i .attachType ≡ 1 → ⊥) → (slot l i .attachType ≡ 2 → ⊥) → l ≡ joined d l i j
   unfolding joined update
-  joined-other-type one two = rw (other-kind (slot l i .attachType) one two) (sym (set-getD l i noSlot))
+  joined-other-type one two = rw (other-kind (slot l i .attachType) one two) (sym (update-none i l))

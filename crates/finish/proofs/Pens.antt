@@ -4,9 +4,9 @@ use mathlib.Core.List.{List, [], _∷_, map}
 use mathlib.Core.Path.{_≡_, refl, sym, ap, _∙_}
 use Prim.Native.Nat.{ℕ, zero, suc, _+_, _*_, _≤_, _<_, min, max}
 use native.Mathlib.Nat.{mul-le-mul-left}
+use native.Mathlib.Numerals.{add-one}
 use native.Mathlib.Omega.{arith}
 use native.Mathlib.Decide.{decLt}
-use borrow.Author.Tests.{lt-ltb, le-ltb}
 use lib.Dec.{ltb}
 use lib.IntN.{ℤ, negℤ, natAbs, _+ℤ_, _-ℤ_, +ℤ-comm}
 use lib.ListN.{length, take, drop, take-append-drop, length-take, length-drop}
@@ -21,6 +21,7 @@ use Rattle.slots.specs.declared.axis.Axis.{Axis}
 use Rattle.slots.specs.declared.axis.Direction.{Direction}
 use Rattle.finish.specs.Finish.{advances, between, stepBy, subtracts, walked}
 use Rattle.finish.specs.Demand3.{penOf}
+use Rattle.finish.proofs.WalkLaws.{Side, between-is, side-is, walkPart}
 
 -- ---- the sum from the front, and the sum from the back, of what is between
 front : (lo hi : ℕ) (zs : List ℤ) → lo ≤ hi → total (take hi zs) ≡ total (take lo zs) +ℤ total (slice lo hi zs)
@@ -52,25 +53,20 @@ undone p q s e = omega (omegaℤ, bal-add p (negℤ s), bal-neg s, bal-add q s)
 -- the advances between a slot and its parent, put to the slot's pen place, give the parent's
 leads : (zs : List ℤ) (i j : ℕ) → i < length zs → j < length zs → (f : Bool) → exactBy (subtracts (ltb j i) f) (penOf f zs i) (total (between f zs i j)) ≡ penOf f zs j
 unfolding penOf
-leads zs i j hi hj f = go (decLt j i) f
+leads zs i j hi hj f = go (decLt j i)
   where
-    go : Dec (j < i) → (f : Bool) → exactBy (subtracts (ltb j i) f) (penOf f zs i) (total (between f zs i j)) ≡ penOf f zs j
-    go (yes lt) true =
-        let low : min i j ≡ j = omega arith in
-        let high : max i j ≡ i = omega arith in
-        rw (lt-ltb j i lt, low, high) (undone _ _ _ (front j i zs (omega arith)))
-    go (yes lt) false =
-        let low : min i j ≡ j = omega arith in
-        let high : max i j ≡ i = omega arith in
-        rw (lt-ltb j i lt, low, high) (sym (back (suc j) (suc i) zs (omega arith) (omega arith)))
-    go (no ge) true =
-        let low : min i j ≡ i = omega arith in
-        let high : max i j ≡ j = omega arith in
-        rw (le-ltb j i (omega arith), low, high) (sym (front i j zs (omega arith)))
-    go (no ge) false =
-        let low : min i j ≡ i = omega arith in
-        let high : max i j ≡ j = omega arith in
-        rw (le-ltb j i (omega arith), low, high) (undone _ _ _ (back (suc i) (suc j) zs (omega arith) (omega arith)))
+    by : (b : Bool) → Side b i j → (f : Bool) → exactBy (subtracts b f) (penOf f zs i) (total (walkPart f b zs i j)) ≡ penOf f zs j
+    by true h true = undone _ _ _ (front j i zs (omega arith))
+    by true h false = rw (add-one j, add-one i) (sym (back (suc j) (suc i) zs (omega arith) (omega arith)))
+    by false h true = sym (front i j zs h)
+    by false h false = rw (add-one i, add-one j) (undone _ _ _ (back (suc i) (suc j) zs (omega arith) (omega arith)))
+
+    at : (b : Bool) → Side b i j → exactBy (subtracts (ltb j i) f) (penOf f zs i) (total (between f zs i j)) ≡ penOf f zs j
+    at b h = rw (side-is b i j h, between-is f b zs i j h) (by b h f)
+
+    go : Dec (j < i) → exactBy (subtracts (ltb j i) f) (penOf f zs i) (total (between f zs i j)) ≡ penOf f zs j
+    go (yes lt) = at true lt
+    go (no ge) = at false (omega arith)
 
 -- ---- sizes: every advance is within b of zero
 module _ (b : ℕ) (zs : List ℤ) (near : Near b zs) where

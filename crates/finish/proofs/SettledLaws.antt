@@ -3,7 +3,7 @@ use mathlib.Core.Bool.{Bool, true, false}
 use mathlib.Core.List.{List, map}
 use mathlib.Core.Path.{_≡_, refl, sym, ap, _∙_}
 use Prim.Native.Nat.{ℕ, zero, suc, _<_}
-use lib.IntN.{ℤ}
+use lib.IntN.{ℤ, pos}
 use lib.ListN.{length, getD, List·getD-map}
 use lib.Seq.{map-set-same}
 use Rattle.ints.specs.Choice.{if_then_else_}
@@ -17,6 +17,8 @@ use Rattle.slots.specs.declared.axis.Axis.the-variants.{X, Y}
 use Rattle.slots.specs.declared.axis.Direction.{Direction}
 use Rattle.slots.specs.declared.parent.Parent.{Parent}
 use Rattle.slots.specs.declared.parent.Parent.the-variants.{None, Outside, At}
+use Rattle.slots.specs.declared.fields.Measure.the-variants.{Advance}
+use Rattle.slots.proofs.FieldLaws.{measure-chain}
 use Rattle.slots.proofs.LineLaws.{length-update, update-other, update-same}
 use Rattle.slots.proofs.ParentLaws.{cleared-count}
 use Rattle.finish.specs.Finish.{advances, finished, free, joined, newOffset, settled, settledDown, settledUp, withOffsets}
@@ -48,19 +50,15 @@ map-update : {B : Type 0} (g : Slot → B) (i : ℕ) (f : Slot → Slot) (m : Li
 unfolding update
 map-update g i f m e = map-set-same g m i (f (slot m i)) noSlot e
 
--- neither a cleared chain nor other offsets change an advance
-advance-free : (a : Axis) (s : Slot) → advance a (free s) ≡ advance a s
-advance-free X s = refl
-advance-free Y s = refl
-
-advance-moved : (a : Axis) (ox oy : ℤ) (s : Slot) → advance a (withOffsets ox oy s) ≡ advance a s
+-- other offsets change no advance
+pub advance-moved : (a : Axis) (ox oy : ℤ) (s : Slot) → advance a (withOffsets ox oy s) ≡ advance a s
 advance-moved X ox oy s = refl
 advance-moved Y ox oy s = refl
 
 module _ (m : List Slot) (i : ℕ) where
   pub cleared-advances : (a : Axis) → advances a (cleared m i) ≡ advances a m
   unfolding cleared
-  cleared-advances a = map-update (advance a) i free m (advance-free a (slot m i))
+  cleared-advances a = map-update (advance a) i free m (measure-chain Advance a (pos 0) (slot m i))
 
   module _ (d : Direction) (j : ℕ) where
     takes : Slot → Slot

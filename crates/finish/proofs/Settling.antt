@@ -19,12 +19,14 @@ use Rattle.slots.specs.declared.axis.Axis.the-variants.{X, Y}
 use Rattle.slots.specs.declared.axis.Direction.{Direction}
 use Rattle.slots.specs.declared.parent.Parent.{Parent}
 use Rattle.slots.specs.declared.parent.Parent.the-variants.{None, Outside, At}
+use Rattle.slots.specs.declared.fields.Measure.the-variants.{Offset}
+use Rattle.slots.proofs.FieldLaws.{measure-chain}
 use Rattle.slots.proofs.ParentLaws.{at-hangs, chain-zero, child-in-line, cleared-count, cleared-other, cleared-own, none-ends, outside-ends, outside-hangs, parent-in-line, parent-none, parent-same}
 use Rattle.finish.specs.Finish.{advances, finished, free, isMain, joined, kindOf, newOffset, settled, settledDown, settledUp, withOffsets}
 use Rattle.finish.specs.Demand3.{Bounded}
 use Rattle.finish.proofs.Along.{along, along-at, along-end, along-holds}
 use Rattle.finish.proofs.Pens.{walked-same}
-use Rattle.finish.proofs.Exact.{exactOffset, final, final-near, offset-free, onto, taken-exact}
+use Rattle.finish.proofs.Exact.{exactOffset, final, final-near, onto, taken-exact}
 use Rattle.finish.proofs.SettledLaws.{cleared-advances, joined-advances, joined-count, joined-other, joined-own, settled-at, settled-holds, settled-none, settled-outside}
 
 -- how many hops a chain has, counted up to n
@@ -91,7 +93,7 @@ module _ (d : Direction) (limit : ℕ) (l : List Slot) (ok : Bounded limit l) wh
   module _ (m : List Slot) (i j : ℕ) (same : Like m) (e : parent l i ≡ At j) (own : slot m i ≡ free (slot l i)) (par : slot m j ≡ fin j) where
     new-exact : (a : Axis) → newOffset d m i j a ≡ exactOffset d l i j (fin j) a
     new-exact a =
-        rw (walked-same d a l m i j (same .advs a), own, par, offset-free (slot l i) a)
+        rw (walked-same d a l m i j (same .advs a), own, par, measure-chain Offset a (pos 0) (slot l i))
         (taken-exact d limit l ok a i j (child-in-line l i j e) (parent-in-line l i j e) (kindOf (slot l i .attachType)) (isMain d a) (offset a (fin j))
         (final-near d limit l ok a j (parent-in-line l i j e)))
 
@@ -115,7 +117,7 @@ module _ (d : Direction) (limit : ℕ) (l : List Slot) (ok : Bounded limit l) wh
       out = parent-same l m i (h .count) own ∙ e
 
       here : slot (cleared m i) i ≡ fin i
-      here = cleared-own m i (omega (arith, h .count)) ∙ ap free own ∙ sym (fin-end i (outside-ends l i e))
+      here = cleared-own m i (omega (arith, h .count)) ∙ ap free own ∙ sym (fin-end i (outside-ends e))
 
       go : (k : ℕ) → Dec (k ≡ i) → Goes m (cleared m i) k
       go k (yes q) = inr (rw q (outside-hangs m i out, here))
@@ -157,7 +159,7 @@ module _ (d : Direction) (limit : ℕ) (l : List Slot) (ok : Bounded limit l) wh
     where
       by : (p : Parent) → parent l i ≡ p → slot m i ≡ slot l i → Settled m i (settled d n m i)
       by None e own =
-          idle n m i (parent-same l m i (h .count) own ∙ e) (own ∙ free-zero (slot l i) (chain-zero l i e) ∙ sym (fin-end i (none-ends l i e)))
+          idle n m i (parent-same l m i (h .count) own ∙ e) (own ∙ free-zero (slot l i) (chain-zero l i e) ∙ sym (fin-end i (none-ends e)))
       by Outside e own = cut n m i lt h own e
       by (At j) e own = up j e own
 

@@ -3,25 +3,26 @@ use mathlib.Core.Bool.{true, false}
 use mathlib.Core.List.{List}
 use mathlib.Core.Path.{_≡_, refl, ap, _∙_}
 use Prim.Native.Nat.{ℕ, zero, suc}
-use lib.IntN.{ℤ, negℤ, _+ℤ_, _-ℤ_}
+use lib.IntN.{ℤ, pos, negℤ, _+ℤ_, _-ℤ_}
 use Rattle.ints.proofs.Ints.{bal-add, bal-neg, omegaℤ}
 use Rattle.slots.specs.Axis.{cross, main}
 use Rattle.slots.specs.Slot.{Slot}
 use Rattle.slots.specs.Line.{slot}
-use Rattle.slots.specs.Fields.{advance, offset}
+use Rattle.slots.specs.Fields.{offset}
 use Rattle.slots.specs.Parent.{parent}
 use Rattle.slots.specs.declared.axis.Axis.{Axis}
-use Rattle.slots.specs.declared.axis.Axis.the-variants.{X, Y}
 use Rattle.slots.specs.declared.axis.Direction.{Direction}
 use Rattle.slots.specs.declared.axis.Direction.the-variants.{LeftToRight, RightToLeft, TopToBottom, BottomToTop}
 use Rattle.slots.specs.declared.parent.Parent.{Parent}
 use Rattle.slots.specs.declared.parent.Parent.the-variants.{None, Outside, At}
+use Rattle.slots.specs.declared.fields.Measure.the-variants.{Advance, Offset}
+use Rattle.slots.proofs.FieldLaws.{measure-chain}
 use Rattle.slots.proofs.ParentLaws.{none-ends, outside-ends}
 use Rattle.finish.specs.Finish.{finished, free, isMain, kindOf, withOffsets}
 use Rattle.finish.specs.Demand3.{Bounded, Cursive, Demand3, Kept, Mark, pen}
 use Rattle.finish.proofs.Along.{along-holds}
-use Rattle.finish.proofs.Exact.{exact, final, offset-free, offset-onto, onto}
-use Rattle.finish.proofs.SettledLaws.{finished-advances, finished-count}
+use Rattle.finish.proofs.Exact.{exact, final, offset-onto, onto}
+use Rattle.finish.proofs.SettledLaws.{advance-moved, finished-advances, finished-count}
 use Rattle.finish.proofs.Settling.{fin-at, fin-end, final-chain, finished-slot}
 
 -- the main axis is the main one, the cross axis is not
@@ -47,11 +48,14 @@ across-sum p own q = omega (omegaℤ, bal-add p (own +ℤ (q -ℤ p)), bal-add o
 
 -- a slot unattached, with other offsets, keeps all else
 moved-kept : (ox oy : ℤ) (s : Slot) → Kept s (withOffsets ox oy (free s))
-moved-kept ox oy s = record { glyph-kept = refl; id-kept = refl; component-kept = refl; flags-kept = refl; type-kept = refl; advances-kept = go }
-  where
-    go : (a : Axis) → advance a (withOffsets ox oy (free s)) ≡ advance a s
-    go X = refl
-    go Y = refl
+moved-kept ox oy s = record {
+  glyph-kept = refl;
+  id-kept = refl;
+  component-kept = refl;
+  flags-kept = refl;
+  type-kept = refl;
+  advances-kept = λ a. advance-moved a ox oy (free s) ∙ measure-chain Advance a (pos 0) s;
+}
 
 -- so a final slot keeps all but chain and offsets
 final-kept : (d : Direction) (l : List Slot) (n i : ℕ) → Kept (slot l i) (final d l n i)
@@ -69,7 +73,7 @@ module _ (d : Direction) (limit : ℕ) (l : List Slot) (ok : Bounded limit l) wh
   offset-at i j a e = rw (finished-slot d limit l ok i, finished-slot d limit l ok j, fin-at d limit l ok i j e) (offset-onto d l i j (final d l limit j) a)
 
   offset-end : (i : ℕ) (a : Axis) → ((j : ℕ) → parent l i ≡ At j → ⊥) → offset a (slot l′ i) ≡ offset a (slot l i)
-  offset-end i a h = rw (finished-slot d limit l ok i, fin-end d limit l ok i h) (offset-free (slot l i) a)
+  offset-end i a h = rw (finished-slot d limit l ok i, fin-end d limit l ok i h) (measure-chain Offset a (pos 0) (slot l i))
 
   -- the slots that are neither a mark nor a cursive glyph
   untouched : (i : ℕ) (a : Axis) → ((j : ℕ) → Mark l i j → ⊥) → ((j : ℕ) → Cursive l i j → ⊥) → offset a (slot l′ i) ≡ offset a (slot l i)
@@ -83,8 +87,8 @@ module _ (d : Direction) (limit : ℕ) (l : List Slot) (ok : Bounded limit l) wh
       by j e (suc (suc (suc k))) f = refl
 
       go : (p : Parent) → parent l i ≡ p → offset a (slot l′ i) ≡ offset a (slot l i)
-      go None e = offset-end i a (none-ends l i e)
-      go Outside e = offset-end i a (outside-ends l i e)
+      go None e = offset-end i a (none-ends e)
+      go Outside e = offset-end i a (outside-ends e)
       go (At j) e = offset-at i j a e ∙ by j e (slot l i .attachType) refl
 
   -- the theorem

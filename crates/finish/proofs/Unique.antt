@@ -65,12 +65,12 @@ module _ (d : Direction) (l m m′ : List Slot) (h : Demand3 d l m) (h′ : Dema
   same-pen : (a : Axis) (i : ℕ) → pen d a m i ≡ pen d a m′ i
   same-pen a i = ap (λ zs. penOf (forward d) zs i) (same-advances a)
 
-  -- the same offsets where a chain ends
+  -- the same offsets of a slot that is neither a mark nor a cursive glyph, so where a chain ends
+  same-neither : (i : ℕ) (a : Axis) → ((j : ℕ) → Mark l i j → ⊥) → ((j : ℕ) → Cursive l i j → ⊥) → offset a (slot m i) ≡ offset a (slot m′ i)
+  same-neither i a k c = h .others i a k c ∙ sym (h′ .others i a k c)
+
   same-end : (i : ℕ) (a : Axis) → ((j : ℕ) → parent l i ≡ At j → ⊥) → offset a (slot m i) ≡ offset a (slot m′ i)
-  same-end i a f =
-      let k : (j : ℕ) → Mark l i j → ⊥ = λ j u. f j (u .parent-is) in
-      let c : (j : ℕ) → Cursive l i j → ⊥ = λ j u. f j (u .parent-is) in
-      h .others i a k c ∙ sym (h′ .others i a k c)
+  same-end i a f = same-neither i a (λ j u. f j (u .parent-is)) (λ j u. f j (u .parent-is))
 
   module _ (i j : ℕ) (e : parent l i ≡ At j) (up : (a : Axis) → offset a (slot m j) ≡ offset a (slot m′ j)) where
     -- and, by the type, on a parent of the same offsets
@@ -93,10 +93,7 @@ module _ (d : Direction) (l m m′ : List Slot) (h : Demand3 d l m) (h′ : Dema
         rw q (h .cursive-across i j u ∙ rw (up (cross d)) (sym (h′ .cursive-across i j u)))
 
     same-other : (slot l i .attachType ≡ 1 → ⊥) → (slot l i .attachType ≡ 2 → ⊥) → (a : Axis) → offset a (slot m i) ≡ offset a (slot m′ i)
-    same-other one two a =
-        let k : (n : ℕ) → Mark l i n → ⊥ = λ n u. one (u .type-is) in
-        let c : (n : ℕ) → Cursive l i n → ⊥ = λ n u. two (u .type-is) in
-        h .others i a k c ∙ sym (h′ .others i a k c)
+    same-other one two a = same-neither i a (λ n u. one (u .type-is)) (λ n u. two (u .type-is))
 
     same-at : (k : ℕ) → slot l i .attachType ≡ k → (a : Axis) → offset a (slot m i) ≡ offset a (slot m′ i)
     same-at zero k a = same-other (λ f. omega arith) (λ f. omega arith) a
@@ -110,8 +107,8 @@ module _ (d : Direction) (l m m′ : List Slot) (h : Demand3 d l m) (h′ : Dema
   same-off (suc n) i f a = go (parent l i) refl (λ j e. same-off n j (f j e))
     where
       go : (p : Parent) → parent l i ≡ p → ((j : ℕ) → parent l i ≡ At j → (a : Axis) → offset a (slot m j) ≡ offset a (slot m′ j)) → offset a (slot m i) ≡ offset a (slot m′ i)
-      go None e up = same-end i a (none-ends l i e)
-      go Outside e up = same-end i a (outside-ends l i e)
+      go None e up = same-end i a (none-ends e)
+      go Outside e up = same-end i a (outside-ends e)
       go (At j) e up = same-at i j e (up j e) (slot l i .attachType) refl a
 
   -- slots of the same offsets are the same

@@ -4,13 +4,14 @@ use mathlib.Core.Bool.{Bool, false, _||_}
 use Prim.Native.Nat.{ℕ, _<_}
 use borrow.Author.Tests.{leb-false}
 use lib.Dec.{leb}
+use Rattle.ints.proofs.TestLaws.{or-false}
 use Rattle.answers.specs.declared.Neighbour.{Neighbour}
 use Rattle.answers.specs.declared.Neighbour.the-variants.{At, Missing}
 use Rattle.pair.specs.Codes.{After}
 use Rattle.cursive.specs.Decision.{Before}
 use Rattle.gpos.specs.Neighbours.{badAfter, badBefore}
-use Rattle.gpos.proofs.TestLaws.{or-false}
 
+-- where neither the index nor the rest of the test is bad, the index is in the line
 pub index-in : (n i : ℕ) (bad : Bool) → leb n i || bad ≡ false → (i < n) × (bad ≡ false)
 index-in n i bad e = let f = or-false (leb n i) bad e in (leb-false n i (f .0), f .1)
 

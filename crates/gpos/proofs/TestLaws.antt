@@ -1,20 +1,16 @@
 -- What is known once the tests of a line do not hold. Assumes nothing.
-use mathlib.Core.Path.{_≡_, refl}
-use mathlib.Core.Bool.{Bool, true, false, _||_}
+use mathlib.Core.Path.{_≡_}
+use mathlib.Core.Bool.{Bool, false, _||_}
 use mathlib.Core.List.{List, [], _∷_}
 use Prim.Native.Nat.{ℕ}
-use native.Mathlib.Omega.{arith}
 use borrow.Author.Tests.{ltb-false}
 use lib.Dec.{ltb}
 use Rattle.ints.specs.Scale.{InScale}
+use Rattle.ints.proofs.TestLaws.{or-false}
 use Rattle.slots.specs.Checks.{misshapen, unranged}
 use Rattle.answers.specs.Said.{done, unless}
 use Rattle.answers.proofs.TestLaws.{clear-first}
 use Rattle.gpos.specs.Tests.{lineTests, offScale}
-
-pub or-false : (a b : Bool) → a || b ≡ false → (a ≡ false) × (b ≡ false)
-or-false false b e = (refl, e)
-or-false true b e = let z : _≡_ {A = ℕ} 0 1 = cc in absurd (omega arith)
 
 -- the scale is in its range
 pub in-scale : (s u : ℕ) → offScale s u ≡ false → InScale s u

@@ -5,7 +5,9 @@ use mathlib.Core.List.{List}
 use Prim.Native.Nat.{ℕ}
 use Rattle.marks.specs.declared.subtable.Kind.{Kind}
 use Rattle.answers.specs.declared.Neighbour.{Neighbour}
-use Rattle.answers.proofs.OutcomeLaws.{one-answer, one-done}
+use Rattle.answers.specs.Said.{said, saidDone}
+use Rattle.answers.proofs.OutcomeLaws.{one-outcome}
+use Rattle.answers.proofs.SaidLaws.{said-same, saidDone-same}
 use Rattle.gpos.specs.Start.{Started}
 use Rattle.gpos.specs.Finish.{Finished}
 use Rattle.gpos.specs.Single.{Singled}
@@ -19,25 +21,25 @@ Unique {R} Meets = (r₁ r₂ : R) (l₁ l₂ : List ℕ) → Meets r₁ l₁ �
 
 -- gpos::start
 pub start-unique : (l : List ℕ) → Unique (Started l)
-start-unique l r₁ r₂ l₁ l₂ p q = one-done l _ _ l₁ l₂ r₁ r₂ p q
+start-unique l r₁ r₂ l₁ l₂ p q = one-outcome saidDone saidDone-same l _ _ l₁ l₂ r₁ r₂ p q
 
 -- gpos::finish
 pub finish-unique : (l : List ℕ) (direction limit : ℕ) (flag : Bool) → Unique (Finished l direction limit flag)
-finish-unique l direction limit flag r₁ r₂ l₁ l₂ p q = one-done l _ _ l₁ l₂ r₁ r₂ p q
+finish-unique l direction limit flag r₁ r₂ l₁ l₂ p q = one-outcome saidDone saidDone-same l _ _ l₁ l₂ r₁ r₂ p q
 
 module _ (l t : List ℕ) (direction s u i : ℕ) where
   -- gpos::single
   pub single-unique : Unique (Singled l t direction s u i)
-  single-unique r₁ r₂ l₁ l₂ p q = one-answer l _ _ l₁ l₂ r₁ r₂ p q
+  single-unique r₁ r₂ l₁ l₂ p q = one-outcome said said-same l _ _ l₁ l₂ r₁ r₂ p q
 
   -- gpos::pair
   pub pair-unique : (second : Neighbour) → Unique (Paired l t direction s u i second)
-  pair-unique second r₁ r₂ l₁ l₂ p q = one-answer l _ _ l₁ l₂ r₁ r₂ p q
+  pair-unique second r₁ r₂ l₁ l₂ p q = one-outcome said said-same l _ _ l₁ l₂ r₁ r₂ p q
 
   -- gpos::cursive
   pub cursive-unique : (previous : Neighbour) (flag : ℕ) → Unique (Cursived l t direction s u i previous flag)
-  cursive-unique previous flag r₁ r₂ l₁ l₂ p q = one-answer l _ _ l₁ l₂ r₁ r₂ p q
+  cursive-unique previous flag r₁ r₂ l₁ l₂ p q = one-outcome said said-same l _ _ l₁ l₂ r₁ r₂ p q
 
   -- gpos::mark_base and gpos::mark_ligature, by the kind
   pub mark-unique : (kind : Kind) → Unique (Marked kind l t direction s u i)
-  mark-unique kind r₁ r₂ l₁ l₂ p q = one-answer l _ _ l₁ l₂ r₁ r₂ p q
+  mark-unique kind r₁ r₂ l₁ l₂ p q = one-outcome said said-same l _ _ l₁ l₂ r₁ r₂ p q

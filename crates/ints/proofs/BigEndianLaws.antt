@@ -1,12 +1,12 @@
 -- Laws of numbers in bytes, once over the width. Assumes nothing.
 use mathlib.Core.Path.{_≡_, refl, sym, ap, _∙_}
-use mathlib.Core.List.{List, [], _∷_, _++_, append-assoc}
+use mathlib.Core.List.{List, [], _∷_, _++_, append-assoc, append-nil}
 use Prim.Native.Nat.{ℕ, zero, suc, _+_, _*_, _/_, _%_, _^_, _<_, _≤_}
 use native.Mathlib.Nat.{pow-suc, add-zero}
 use native.Mathlib.Omega.{arith}
 use native.Mathlib.Numerals.{add-one}
 use lib.ListN.{length, getD, set, take, drop, length-append, length-drop, take-append-drop}
-use lib.Seq.{drop-drop, getD-at, getD-drop, getD-set-other, getD-set-same, length-sets, length-take-le, sets, sets-eq, take-suc}
+use lib.Seq.{drop-drop, getD-at, getD-drop, getD-set-other, getD-set-same, length-take-le, sets, sets-eq, take-suc}
 use Rattle.ints.specs.BigEndian.{Bytes, digits, natAt, withNat}
 
 -- ---- the bytes of a number
@@ -51,14 +51,21 @@ digits-natAt (suc w) l at h f =
     let n : w < length (drop at l) = simp length-drop (omega arith) in
     rw (x, y, digits-natAt w l at h (omega arith), take-suc (drop at l) w 0 n, getD-drop at l w 0)
 
+-- ---- a part of bytes is bytes
+pub bytes-take : (n : ℕ) (l : List ℕ) → Bytes l → Bytes (take n l)
+bytes-take zero l h k = omega arith
+bytes-take (suc n) [] h k = omega arith
+bytes-take (suc n) (x ∷ l) h zero = h 0
+bytes-take (suc n) (x ∷ l) h (suc k) = bytes-take n l (λ j. h (suc j)) k
+
+pub bytes-drop : (n : ℕ) (l : List ℕ) → Bytes l → Bytes (drop n l)
+bytes-drop n l h k = rw (getD-drop n l k 0) (h (n + k))
+
 -- ---- writing
+-- a list written at i: what is before i stays, and what was written is there
 sets-below : (l : List ℕ) (i : ℕ) (vs : List ℕ) (j : ℕ) → j < i → getD (sets l i vs) j 0 ≡ getD l j 0
 sets-below l i [] j h = refl
 sets-below l i (v ∷ vs) j h = sets-below (set l i v) (suc i) vs j (omega arith) ∙ getD-set-other l i j v 0 (λ e. omega arith)
-
-sets-above : (l : List ℕ) (i : ℕ) (vs : List ℕ) (j : ℕ) → i + length vs ≤ j → getD (sets l i vs) j 0 ≡ getD l j 0
-sets-above l i [] j h = refl
-sets-above l i (v ∷ vs) j h = sets-above (set l i v) (suc i) vs j (omega arith) ∙ getD-set-other l i j v 0 (λ e. omega arith)
 
 sets-at : (l : List ℕ) (i : ℕ) (vs : List ℕ) (k : ℕ) → i + length vs ≤ length l → k < length vs → getD (sets l i vs) (i + k) 0 ≡ getD vs k 0
 sets-at l i [] k h f = absurd (omega arith)
@@ -67,11 +74,6 @@ sets-at l i (v ∷ vs) (suc k) h f =
     let e : i + suc k ≡ suc i + k = omega arith in
     rw e (sets-at (set l i v) (suc i) vs k (simp lib.ListN.length-set (omega arith)) (omega arith))
 
--- a write keeps the length
-pub length-withNat : (w : ℕ) (l : List ℕ) (at n : ℕ) → length (withNat w l at n) ≡ length l
-unfolding withNat
-length-withNat w l at n = length-sets l at (digits w n)
-
 -- what was written is read
 pub natAt-withNat : (w : ℕ) (l : List ℕ) (at n : ℕ) → at + w ≤ length l → n < 256 ^ w → natAt w (withNat w l at n) at ≡ n
 unfolding withNat
@@ -79,19 +81,6 @@ natAt-withNat w l at n f h =
     natAt-same w (sets l at (digits w n)) (digits w n ++ []) at 0
     (λ i p. sets-at l at (digits w n) i (omega (arith, length-digits w n)) (omega (arith, length-digits w n)) ∙ ap (λ (q : List ℕ). getD q i 0) (sym (append-nil (digits w n))) ∙ ap (λ (k : ℕ). getD (digits w n ++ []) k 0) (omega arith))
     ∙ natAt-digits w n h []
-  where
-    append-nil : (s : List ℕ) → s ++ [] ≡ s
-    append-nil [] = refl
-    append-nil (x ∷ s) = ap (λ (q : List ℕ). x ∷ q) (append-nil s)
-
--- a number of v bytes that lies before what was written, or after it, stays
-pub natAt-before : (w v : ℕ) (l : List ℕ) (at to n : ℕ) → to + v ≤ at → natAt v (withNat w l at n) to ≡ natAt v l to
-unfolding withNat
-natAt-before w v l at to n h = natAt-same v (sets l at (digits w n)) l to to (λ i p. sets-below l at (digits w n) (to + i) (omega arith))
-
-pub natAt-after : (w v : ℕ) (l : List ℕ) (at to n : ℕ) → at + w ≤ to → natAt v (withNat w l at n) to ≡ natAt v l to
-unfolding withNat
-natAt-after w v l at to n h = natAt-same v (sets l at (digits w n)) l to to (λ i p. sets-above l at (digits w n) (to + i) (omega (arith, length-digits w n)))
 
 -- a write of what was read changes nothing
 pub withNat-natAt : (w : ℕ) (l : List ℕ) (at : ℕ) → Bytes l → at + w ≤ length l → withNat w l at (natAt w l at) ≡ l

@@ -4,7 +4,7 @@ use mathlib.Core.Bool.{Bool, true, false, not, cond}
 use Prim.Native.Nat.{ℕ, zero, suc, _+_, _*_, _-_, _<_, _≤_}
 use native.Mathlib.Omega.{arith}
 use lib.Dec.{T, ltb, ltb→lt, nltb→le, leb→le, le→leb}
-use lib.IntN.{ℤ, pos, negsuc, negℤ, subℕ, _+ℤ_, _-ℤ_, _*ℤ_, *ℤ-comm}
+use lib.IntN.{ℤ, pos, negsuc, negℤ, subℕ, _+ℤ_, _-ℤ_, _*ℤ_, *ℤ-comm, negℤ-+ℤ}
 use lib.Signed.{ltZ, leZ, _≤ℤ_}
 use borrow.Author.Tests.{lt-ltb, le-ltb}
 
@@ -21,7 +21,7 @@ abbrev pub dn : ℤ → ℕ
 dn (pos n) = 0
 dn (negsuc n) = suc n
 
--- what holds of a - b holds of it as 0, 1, .. and as -1, -2, ..
+-- to show P of a - b, show it where that is 0, 1, .. and where it is -1, -2, ..
 pub by-sign : (P : ℤ → Type 0) (a b : ℕ) → (b ≤ a → P (pos (a - b))) → (a < b → P (negsuc (b - suc a))) → P (diff a b)
 unfolding diff
 by-sign P a b f g = go (ltb a b) (λ t. g (ltb→lt a b t)) (λ t. f (nltb→le a b t))
@@ -30,48 +30,40 @@ by-sign P a b f g = go (ltb a b) (λ t. g (ltb→lt a b t)) (λ t. f (nltb→le 
     go true n p = n tt
     go false n p = p tt
 
+-- the parts of a - b
 pub up-diff : (a b : ℕ) → up (diff a b) ≡ a - b
 up-diff a b = by-sign (λ z. up z ≡ a - b) a b (λ h. refl) (λ h. omega arith)
 
 pub dn-diff : (a b : ℕ) → dn (diff a b) ≡ b - a
 dn-diff a b = by-sign (λ z. dn z ≡ b - a) a b (λ h. omega arith) (λ h. omega arith)
 
--- two integers are equal where their parts are
+-- two integers are equal where the differences of their parts are: up z - dn z and up w - dn w
 pub same : (z w : ℤ) → up z + dn w ≡ up w + dn z → z ≡ w
 same (pos a) (pos b) h = ap pos (omega arith)
 same (pos a) (negsuc b) h = absurd (omega arith)
 same (negsuc a) (pos b) h = absurd (omega arith)
 same (negsuc a) (negsuc b) h = ap negsuc (omega arith)
 
+-- and two differences a - b and c - d where a + d is c + b
 pub eq-diff : (a b c d : ℕ) → a + d ≡ c + b → diff a b ≡ diff c d
 eq-diff a b c d h = same (diff a b) (diff c d) (simp (up-diff, dn-diff) (omega arith))
 
-pub diff-eq : (a b c d : ℕ) → diff a b ≡ diff c d → a + d ≡ c + b
-diff-eq a b c d e =
-    let p : a - b ≡ c - d = simp up-diff at (ap up e) in
-    let q : b - a ≡ d - c = simp dn-diff at (ap dn e) in
-    omega arith
+-- one of the two parts is 0, so neither is taken off the other
+pub one-side : (z : ℤ) → (up z - dn z) + dn z ≡ up z + (dn z - up z)
+one-side (pos n) = omega arith
+one-side (negsuc n) = omega arith
 
+-- an integer is the difference of its parts
 pub diff-of : (z : ℤ) → diff (up z) (dn z) ≡ z
-diff-of z = same (diff (up z) (dn z)) z (simp (up-diff, dn-diff) (parts z))
-  where
-    parts : (z : ℤ) → (up z - dn z) + dn z ≡ up z + (dn z - up z)
-    parts (pos n) = omega arith
-    parts (negsuc n) = omega arith
+diff-of z = same (diff (up z) (dn z)) z (simp (up-diff, dn-diff) (one-side z))
 
+-- the parts of a sum, of a negation and of a product
 pub up-add : (z w : ℤ) → up (z +ℤ w) ≡ (up z + up w) - (dn z + dn w)
 unfolding diff
 up-add (pos a) (pos b) = omega arith
 up-add (pos a) (negsuc b) = up-diff a (suc b) ∙ omega arith
 up-add (negsuc a) (pos b) = up-diff b (suc a) ∙ omega arith
 up-add (negsuc a) (negsuc b) = omega arith
-
-pub dn-add : (z w : ℤ) → dn (z +ℤ w) ≡ (dn z + dn w) - (up z + up w)
-unfolding diff
-dn-add (pos a) (pos b) = omega arith
-dn-add (pos a) (negsuc b) = dn-diff a (suc b) ∙ omega arith
-dn-add (negsuc a) (pos b) = dn-diff b (suc a) ∙ omega arith
-dn-add (negsuc a) (negsuc b) = omega arith
 
 pub up-neg : (z : ℤ) → up (negℤ z) ≡ dn z
 up-neg (pos zero) = refl
@@ -82,6 +74,10 @@ pub dn-neg : (z : ℤ) → dn (negℤ z) ≡ up z
 dn-neg (pos zero) = refl
 dn-neg (pos (suc n)) = refl
 dn-neg (negsuc n) = refl
+
+-- the part below of a sum is the part above of the negated sum
+pub dn-add : (z w : ℤ) → dn (z +ℤ w) ≡ (dn z + dn w) - (up z + up w)
+dn-add z w = sym (up-neg (z +ℤ w)) ∙ ap up (negℤ-+ℤ z w) ∙ up-add (negℤ z) (negℤ w) ∙ rw (up-neg z, up-neg w, dn-neg z, dn-neg w)
 
 pub up-mul : (z : ℤ) (k : ℕ) → up (z *ℤ pos k) ≡ up z * k
 up-mul (pos a) k = refl
@@ -98,7 +94,7 @@ bal a b = simp (up-diff, dn-diff) (omega arith)
 pub bal-add : (z w : ℤ) → up (z +ℤ w) + (dn z + dn w) ≡ (up z + up w) + dn (z +ℤ w)
 bal-add z w = simp (up-add, dn-add) (omega arith)
 
--- ---- the sums of differences
+-- ---- sums, negations and products of differences
 pub add-diff : (a b c d : ℕ) → diff a b +ℤ diff c d ≡ diff (a + c) (b + d)
 add-diff a b c d = same (diff a b +ℤ diff c d) (diff (a + c) (b + d)) (omega (arith, bal-add (diff a b) (diff c d), bal a b, bal c d, bal (a + c) (b + d)))
 
@@ -170,6 +166,3 @@ pub bal-neg : (z : ℤ) → up (negℤ z) + up z ≡ dn z + dn (negℤ z)
 bal-neg z = simp (up-neg, dn-neg) (omega arith)
 
 pub ruleset omegaℤ = (arith, same, eq-in, le-in, le-out)
-
--- what brings a sum of differences to one difference: `simp ints (eq-diff _ _ _ _ (omega arith))`
-pub ruleset ints = (add-diff, neg-diff, add-diff-pos, pos-add-diff, mul-diff, pos-mul-diff, sub-pos)

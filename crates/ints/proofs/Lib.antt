@@ -1,3 +1,4 @@
+pub mod TestLaws
 pub mod Ints
 pub mod BigEndianLaws
 pub mod SignedLaws

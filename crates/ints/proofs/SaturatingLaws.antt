@@ -9,7 +9,7 @@ use lib.IntN.{ℤ, pos, negsuc, negℤ, natAbs, _+ℤ_, _-ℤ_}
 use lib.Signed.{ltZ, mag}
 use Rattle.ints.specs.Signed.{InBytes, signed, val}
 use Rattle.ints.specs.Saturating.{clamp32, less, minus, negated, plus, unlifted}
-use Rattle.ints.proofs.Ints.{add-diff, diff, diff-of, dn, dn-diff, eq-diff, lt-diff, neg-diff, sub-pos, up, up-diff}
+use Rattle.ints.proofs.Ints.{add-diff, diff, diff-of, dn, dn-diff, eq-diff, lt-diff, neg-diff, one-side, sub-pos, up, up-diff}
 use Rattle.ints.proofs.SignedLaws.{signed-high, signed-low}
 use Rattle.ints.proofs.SizeLaws.{abs-add, abs-neg, abs-parts, abs-sub, mag-abs, mag-up}
 
@@ -60,6 +60,7 @@ clamp-fits z = by-clamp (λ w. InBytes 4 w) z (λ l. omega arith) (λ h. omega a
     inside (pos n) l h = omega arith
     inside (negsuc n) l h = omega arith
 
+-- how far apart two integers are, by their parts
 apart : (z y : ℤ) → natAbs (z -ℤ y) ≡ ((up z + dn y) - (dn z + up y)) + ((dn z + up y) - (up z + dn y))
 apart z y =
     ap natAbs (ap (λ w. w -ℤ y) (sym (diff-of z)) ∙ ap (λ w. diff (up z) (dn z) -ℤ w) (sym (diff-of y)))
@@ -67,13 +68,9 @@ apart z y =
 
 pub clamp-nearest : (z y : ℤ) → InBytes 4 y → natAbs (z -ℤ clamp32 z) ≤ natAbs (z -ℤ y)
 clamp-nearest z y h = by-clamp (λ w. natAbs (z -ℤ w) ≤ natAbs (z -ℤ y)) z
-    (λ l. omega (arith, apart z (minus 2147483648), apart z y, mag-up y, sides y))
-    (λ k. omega (arith, apart z (pos 2147483647), apart z y, mag-up y, sides y))
+    (λ l. omega (arith, apart z (minus 2147483648), apart z y, mag-up y, one-side y))
+    (λ k. omega (arith, apart z (pos 2147483647), apart z y, mag-up y, one-side y))
     (λ l k. omega (arith, apart z z))
-  where
-    sides : (w : ℤ) → (up w - dn w) + dn w ≡ up w + (dn w - up w)
-    sides (pos n) = omega arith
-    sides (negsuc n) = omega arith
 
 -- ---- sums that do not saturate are exact
 pub plus-exact : (a b : ℤ) → natAbs a + natAbs b ≤ 2147483647 → plus a b ≡ a +ℤ b
@@ -95,7 +92,7 @@ lifted v h = go (decLe 2147483648 v)
     go (no k) =
         sub-pos ((v + 2147483648) % 4294967296) 2147483648 ∙ sym (signed-low 4 v ((v + 2147483648) % 4294967296) 2147483648 (omega arith) (omega arith))
 
--- a - b, from 0 to 2 ^ 32 - 1, is the nearest number of 32 bits, lifted
+-- a - b brought into the range from 0 to 2 ^ 32 - 1 is a - b - 2 ^ 31 clamped, and lifted
 clamp-lifted : (a b : ℕ) → unlifted (min (a - b) 4294967295) ≡ clamp32 (diff a (b + 2147483648))
 clamp-lifted a b = go (decLt a b) (decLt (b + 4294967295) a)
   where
@@ -110,6 +107,7 @@ clamp-lifted a b = go (decLt a b) (decLt (b + 4294967295) a)
         let e : min (a - b) 4294967295 ≡ a - b = omega arith in
         rw (e, clamp-in a (b + 2147483648) (omega arith) (omega arith), sub-pos (a - b) 2147483648) (eq-diff _ _ _ _ (omega arith))
 
+-- so a sum and a difference of lifted numbers saturate as code computes them
 module _ (x w : ℕ) where
   pub lifted-plus : unlifted (min (x + w - 2147483648) 4294967295) ≡ plus (unlifted x) (unlifted w)
   lifted-plus = clamp-lifted (x + w) 2147483648 ∙ rw (sub-pos x 2147483648, sub-pos w 2147483648, add-diff)
@@ -124,6 +122,7 @@ near-lifted n k z e h =
     let g : (n - 2147483648) + (2147483648 - n) ≡ natAbs z = simp (abs-parts (diff n 2147483648), up-diff, dn-diff) at f in
     omega arith
 
+-- a sum, a difference and a negation of lifted numbers, each held 2 ^ 32 higher
 module _ (x y : ℕ) where
   pub add-lifted : pos (x + y) -ℤ pos 4294967296 ≡ (pos x -ℤ pos 2147483648) +ℤ (pos y -ℤ pos 2147483648)
   add-lifted = rw (sub-pos (x + y) 4294967296, sub-pos x 2147483648, sub-pos y 2147483648, add-diff)

@@ -11,7 +11,7 @@ use lib.ListN.{length, take, drop}
 use Rattle.ints.specs.BigEndian.{Bytes, digits, natAt}
 use Rattle.ints.specs.Signed.{half, InBytes, intAt, pattern, signed, val, withInt}
 use Rattle.ints.proofs.Ints.{by-sign, diff, eq-diff, negsuc-diff, pos-diff, sub-pos}
-use Rattle.ints.proofs.BigEndianLaws.{digits-natAt, length-withNat, natAt-after, natAt-before, natAt-digits, natAt-fits, natAt-withNat, withNat-natAt}
+use Rattle.ints.proofs.BigEndianLaws.{digits-natAt, natAt-digits, natAt-fits, natAt-withNat, withNat-natAt}
 
 -- the patterns are two halves
 halves : (w : ℕ) → 1 ≤ w → 256 ^ w ≡ half w + half w
@@ -41,7 +41,7 @@ signed-pattern w (negsuc n) o h =
     let e = halves w o in
     signed-high w (256 ^ w - (n + 1)) 0 (suc n) (omega arith) (omega arith) ∙ sym (negsuc-diff n)
 
--- the pattern of a pattern's integer is the pattern, and that integer is one of w bytes
+-- the pattern of a pattern's integer is the pattern
 pub pattern-signed : (w n : ℕ) → n < 256 ^ w → pattern w (signed w n) ≡ n
 unfolding pattern
 pattern-signed w n h = go (decLt n (half w))
@@ -50,6 +50,11 @@ pattern-signed w n h = go (decLt n (half w))
     go (yes l) = rw (signed-low w n n 0 l (omega arith), ← (pos-diff n))
     go (no f) = rw (signed-high w n n (256 ^ w) (omega arith) (omega arith)) (by-sign (λ z. pattern w z ≡ n) n (256 ^ w) (λ k. omega arith) (λ k. omega arith))
 
+-- so two patterns of one integer are the same
+pub signed-same : (w n m : ℕ) → n < 256 ^ w → m < 256 ^ w → signed w n ≡ signed w m → n ≡ m
+signed-same w n m h k e = sym (pattern-signed w n h) ∙ ap (pattern w) e ∙ pattern-signed w m k
+
+-- a pattern's integer is one of w bytes
 pub signed-in : (w n : ℕ) → 1 ≤ w → n < 256 ^ w → InBytes w (signed w n)
 signed-in w n o h = go (decLt n (half w))
   where
@@ -72,20 +77,7 @@ pub intAt-withInt : (w : ℕ) (l : List ℕ) (at : ℕ) (z : ℤ) → 1 ≤ w �
 unfolding intAt withInt
 intAt-withInt w l at z o f h = ap (signed w) (natAt-withNat w l at (pattern w z) f (pattern-fits w z h)) ∙ signed-pattern w z o h
 
--- an integer of v bytes that lies before what was written, or after it, stays
-pub intAt-before : (w v : ℕ) (l : List ℕ) (at to : ℕ) (z : ℤ) → to + v ≤ at → intAt v (withInt w l at z) to ≡ intAt v l to
-unfolding intAt withInt
-intAt-before w v l at to z h = ap (signed v) (natAt-before w v l at to (pattern w z) h)
-
-pub intAt-after : (w v : ℕ) (l : List ℕ) (at to : ℕ) (z : ℤ) → at + w ≤ to → intAt v (withInt w l at z) to ≡ intAt v l to
-unfolding intAt withInt
-intAt-after w v l at to z h = ap (signed v) (natAt-after w v l at to (pattern w z) h)
-
--- a write keeps the length, and a write of what was read changes nothing
-pub length-withInt : (w : ℕ) (l : List ℕ) (at : ℕ) (z : ℤ) → length (withInt w l at z) ≡ length l
-unfolding withInt
-length-withInt w l at z = length-withNat w l at (pattern w z)
-
+-- a write of what was read changes nothing
 pub withInt-intAt : (w : ℕ) (l : List ℕ) (at : ℕ) → Bytes l → at + w ≤ length l → withInt w l at (intAt w l at) ≡ l
 unfolding intAt withInt
 withInt-intAt w l at h f = rw (pattern-signed w (natAt w l at) (natAt-fits w l at h)) (withNat-natAt w l at h f)

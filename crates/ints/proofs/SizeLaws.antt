@@ -1,11 +1,12 @@
 -- Laws of an integer's absolute value. Assumes nothing.
-use mathlib.Core.Path.{_≡_}
+use mathlib.Core.Path.{_≡_, ap}
 use Prim.Native.Nat.{ℕ, suc, _+_, _≤_}
 use native.Mathlib.Omega.{arith}
 use lib.IntN.{ℤ, pos, negsuc, negℤ, natAbs, _+ℤ_, _-ℤ_}
 use lib.Signed.{mag}
 use Rattle.ints.proofs.Ints.{diff, dn, dn-add, dn-diff, dn-neg, up, up-add, up-diff, up-neg}
 
+-- mag z, which bounds a number of two's complement, is n for n and for -(n + 1)
 pub mag-up : (z : ℤ) → (up z ≤ mag z) × (dn z ≤ suc (mag z))
 mag-up (pos n) = omega arith
 mag-up (negsuc n) = omega arith
@@ -14,6 +15,12 @@ pub mag-abs : (z : ℤ) → (mag z ≤ natAbs z) × (natAbs z ≤ suc (mag z))
 mag-abs (pos n) = omega arith
 mag-abs (negsuc n) = omega arith
 
+-- 0 alone is of size 0
+pub abs-zero : (z : ℤ) → natAbs z ≡ 0 → z ≡ pos 0
+abs-zero (pos n) e = ap pos e
+abs-zero (negsuc n) e = absurd (omega arith)
+
+-- the size by the parts, and of sums, negations and differences
 pub abs-parts : (z : ℤ) → natAbs z ≡ up z + dn z
 abs-parts (pos n) = omega arith
 abs-parts (negsuc n) = omega arith

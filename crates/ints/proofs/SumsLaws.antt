@@ -3,19 +3,20 @@ use mathlib.Core.Path.{_≡_, refl, sym, ap, _∙_}
 use mathlib.Core.List.{List, [], _∷_, _++_}
 use Prim.Native.Nat.{ℕ, zero, suc, _+_, _*_, _≤_}
 use native.Mathlib.Omega.{arith}
-use lib.IntN.{ℤ, negℤ, natAbs, _+ℤ_, _-ℤ_, +ℤ-assoc, +ℤ-idl, +ℤ-idr}
+use lib.IntN.{ℤ, pos, negℤ, natAbs, _+ℤ_, _-ℤ_, +ℤ-assoc, +ℤ-idl, +ℤ-idr, negℤ-+ℤ}
 use lib.ListN.{length, take, drop}
 use Rattle.ints.specs.Saturating.{less, plus}
 use Rattle.ints.specs.Sums.{lessAll, Near, plusAll, stepwise, total}
-use Rattle.ints.proofs.Ints.{bal-add, bal-neg, omegaℤ}
 use Rattle.ints.proofs.SaturatingLaws.{less-exact, plus-exact}
-use Rattle.ints.proofs.SizeLaws.{abs-add, abs-sub}
+use Rattle.ints.proofs.SizeLaws.{abs-add, abs-neg}
 
+-- the sum of two lists together
 pub total-append : (s t : List ℤ) → total (s ++ t) ≡ total s +ℤ total t
 unfolding total
 total-append [] t = sym (+ℤ-idl (total t))
 total-append (z ∷ s) t = ap (λ w. z +ℤ w) (total-append s t) ∙ sym (+ℤ-assoc z (total s) (total t))
 
+-- lists of integers within b of zero: so are their parts, and their sum is bounded
 module _ (b : ℕ) where
   pub near-tail : (z : ℤ) (zs : List ℤ) → Near b (z ∷ zs) → Near b zs
   near-tail z zs h k lt = h (suc k) (omega arith)
@@ -36,33 +37,26 @@ module _ (b : ℕ) where
   total-near [] h = omega arith
   total-near (z ∷ zs) h = omega (arith, abs-add z (total zs), h 0 (omega arith), total-near zs (near-tail z zs h))
 
-  pub plusAll-exact : (z : ℤ) (zs : List ℤ) → Near b zs → natAbs z + b * length zs ≤ 2147483647 → plusAll z zs ≡ z +ℤ total zs
+  -- steps that put s of each to z, exact where they are small, give z and s of the sum: s is nothing or a negation
+  stepwise-exact : (f : ℤ → ℤ → ℤ) (s : ℤ → ℤ) → s (pos 0) ≡ pos 0 → ((a c : ℤ) → s (a +ℤ c) ≡ s a +ℤ s c) → ((a : ℤ) → natAbs (s a) ≡ natAbs a)
+      → ((z a : ℤ) → natAbs z + natAbs a ≤ 2147483647 → f z a ≡ z +ℤ s a)
+      → (z : ℤ) (zs : List ℤ) → Near b zs → natAbs z + b * length zs ≤ 2147483647 → stepwise f z zs ≡ z +ℤ s (total zs)
   unfolding stepwise total
-  plusAll-exact z [] h k = sym (+ℤ-idr z)
-  plusAll-exact z (a ∷ zs) h k =
+  stepwise-exact f s none sum size exact z [] h k = sym (ap (λ w. z +ℤ w) none ∙ +ℤ-idr z)
+  stepwise-exact f s none sum size exact z (a ∷ zs) h k =
       let n = h 0 (omega arith) in
-      let e : plus z a ≡ z +ℤ a = plus-exact z a (omega arith) in
-      ap (λ w. plusAll w zs) e ∙ plusAll-exact (z +ℤ a) zs (near-tail a zs h) (omega (arith, abs-add z a)) ∙ +ℤ-assoc z a (total zs)
+      ap (λ w. stepwise f w zs) (exact z a (omega arith))
+      ∙ stepwise-exact f s none sum size exact (z +ℤ s a) zs (near-tail a zs h) (omega (arith, abs-add z (s a), size a))
+      ∙ +ℤ-assoc z (s a) (s (total zs))
+      ∙ ap (λ w. z +ℤ w) (sym (sum a (total zs)))
+
+  pub plusAll-exact : (z : ℤ) (zs : List ℤ) → Near b zs → natAbs z + b * length zs ≤ 2147483647 → plusAll z zs ≡ z +ℤ total zs
+  plusAll-exact = stepwise-exact plus (λ a. a) refl (λ a c. refl) (λ a. refl) plus-exact
 
   pub lessAll-exact : (z : ℤ) (zs : List ℤ) → Near b zs → natAbs z + b * length zs ≤ 2147483647 → lessAll z zs ≡ z -ℤ total zs
-  unfolding stepwise total
-  lessAll-exact z [] h k = sym (+ℤ-idr z)
-  lessAll-exact z (a ∷ zs) h k =
-      let n = h 0 (omega arith) in
-      let e : less z a ≡ z -ℤ a = less-exact z a (omega arith) in
-      ap (λ w. lessAll w zs) e ∙ lessAll-exact (z -ℤ a) zs (near-tail a zs h) (omega (arith, abs-sub z a))
-      ∙ omega (
-        omegaℤ,
-        bal-add (z -ℤ a) (negℤ (total zs)),
-        bal-add z (negℤ a),
-        bal-neg (total zs),
-        bal-neg a,
-        bal-add z (negℤ (a +ℤ total zs)),
-        bal-neg (a +ℤ total zs),
-        bal-add a (total zs),
-      )
+  lessAll-exact = stepwise-exact less negℤ refl negℤ-+ℤ abs-neg less-exact
 
--- one more at the end
+-- one more at the end is one step more
 pub stepwise-more : (f : ℤ → ℤ → ℤ) (z : ℤ) (zs : List ℤ) (a : ℤ) → stepwise f z (zs ++ (a ∷ [])) ≡ f (stepwise f z zs) a
 unfolding stepwise
 stepwise-more f z [] a = refl

@@ -1,16 +1,17 @@
 -- Laws of mark subtables: what the check says of a subtable's bytes, and what is found in one, by what code read. Assumes nothing.
 use mathlib.Core.Path.{_≡_, refl, sym, ap, _∙_}
-use mathlib.Core.Bool.{Bool, true, false, _&&_, and-false}
+use mathlib.Core.Bool.{Bool, true, false, and-false}
 use mathlib.Core.List.{List, []}
 use mathlib.Core.Option.{Option, some, none}
 use Prim.Native.Nat.{ℕ, _+_, _*_, _-_, _≤_, _<_, min}
 use native.Mathlib.Omega.{arith}
-use lib.Dec.{eqb, leb}
+use lib.Dec.{eqb}
 use lib.ListN.{length, drop}
-use lib.Seq.{getD-drop}
-use borrow.Author.Tests.{eq-eqb, eqb-true, le-leb, le-ltb, leb-true, lt-leb, lt-ltb, ne-eqb}
+use borrow.Author.Tests.{eq-eqb, le-ltb, lt-leb, lt-ltb, ne-eqb}
 use Rattle.ints.specs.BigEndian.{Bytes, natAt}
 use Rattle.ints.specs.Choice.{if_then_else_}
+use Rattle.ints.proofs.BigEndianLaws.{bytes-drop}
+use Rattle.ints.proofs.TestLaws.{and-left, and-right}
 use Rattle.slots.specs.Slot.{Slot}
 use Rattle.tables.specs.AnchorRows.{rowsOf}
 use Rattle.tables.specs.Coverage.{coverageGoodAt}
@@ -18,62 +19,22 @@ use Rattle.tables.specs.MarkArray.{MarkSpot, markOf}
 use Rattle.tables.specs.Part.{childOf, offsetThere, tableAt}
 use Rattle.tables.specs.declared.anchor_rows.Rows.{Rows}
 use Rattle.tables.specs.declared.anchor_rows.Rows.the-variants.{Of, Absent}
-use Rattle.tables.proofs.SpansLaws.{and-left, and-right}
+use Rattle.tables.proofs.HeaderLaws.{one-format}
 use Rattle.marks.specs.MarkPos.{missing, empty, anchorsFor, classCount, componentIndex, markAt, marksGood, noComponent, rowFor, rowless, rowTable, withMark, withRows}
 use Rattle.marks.specs.declared.subtable.Kind.{Kind}
 use Rattle.marks.specs.declared.subtable.Kind.the-variants.{Base, Ligature}
 
--- what the check of a subtable says
+-- what the check of a subtable says: its header is there, and both coverages are good
 pub record Good (t : List ℕ) : Type 0 where
-  pub short : length t ≤ 65536
   pub header : 12 ≤ length t
-  pub format : natAt 2 t 0 ≡ 1
   pub marks-good : coverageGoodAt t (natAt 2 t 2) ≡ true
   pub bases-good : coverageGoodAt t (natAt 2 t 4) ≡ true
 
 pub good : (t : List ℕ) → marksGood t ≡ true → Good t
 unfolding marksGood
 good t e =
-    let a = and-right (leb (length t) 65536) _ e in
-    let b = and-right (leb 12 (length t)) _ a in
-    let d = and-right (eqb (natAt 2 t 0) 1) _ b in
-    record {
-      short = leb-true (length t) 65536 (and-left _ _ e);
-      header = leb-true 12 (length t) (and-left _ _ a);
-      format = eqb-true (natAt 2 t 0) 1 (and-left _ _ b);
-      marks-good = and-left _ _ d;
-      bases-good = and-right (coverageGoodAt t (natAt 2 t 2)) _ d;
-    }
-
--- ---- the check, by its tests in order
-module _ (t : List ℕ) where
-  pub good-long : 65536 < length t → false ≡ marksGood t
-  unfolding marksGood
-  good-long h = rw (lt-leb (length t) 65536 h)
-
-  module _ (short : length t ≤ 65536) where
-    pub good-cut : length t < 12 → false ≡ marksGood t
-    unfolding marksGood
-    good-cut h = rw (le-leb (length t) 65536 short, lt-leb 12 (length t) h)
-
-    module _ (header : 12 ≤ length t) (f : ℕ) (read : f ≡ natAt 2 t 0) where
-      pub good-unknown : (f ≡ 1 → ⊥) → false ≡ marksGood t
-      unfolding marksGood
-      good-unknown h = rw (le-leb (length t) 65536 short, le-leb 12 (length t) header, ← read, ne-eqb f 1 h)
-
-      module _ (one : f ≡ 1) (m : ℕ) (read-m : m ≡ natAt 2 t 2) (g : Bool) (is : g ≡ coverageGoodAt t m) where
-        both-good : marksGood t ≡ g && coverageGoodAt t (natAt 2 t 4)
-        unfolding marksGood
-        both-good =
-            rw (le-leb (length t) 65536 short, le-leb 12 (length t) header, ← read, eq-eqb f 1 one)
-            (ap (λ (x : Bool). x && coverageGoodAt t (natAt 2 t 4)) (sym (is ∙ ap (coverageGoodAt t) read-m)))
-
-        pub good-marks-not : g ≡ false → false ≡ marksGood t
-        good-marks-not h = sym (both-good ∙ ap (λ (x : Bool). x && coverageGoodAt t (natAt 2 t 4)) h)
-
-        pub good-bases : g ≡ true → (b : ℕ) → b ≡ natAt 2 t 4 → (r : Bool) → r ≡ coverageGoodAt t b → r ≡ marksGood t
-        good-bases h b read-b r e =
-            e ∙ ap (coverageGoodAt t) read-b ∙ sym (both-good ∙ ap (λ (x : Bool). x && coverageGoodAt t (natAt 2 t 4)) h)
+    let f = one-format 12 t _ e in
+    record { header = f .header; marks-good = and-left _ _ (f .others); bases-good = and-right (coverageGoodAt t (natAt 2 t 2)) _ (f .others) }
 
 -- ---- the component for a mark, by the tests in order: i and j are the ligature's id and the mark's, c is the mark's component
 module _ (n : ℕ) (mark lig : Slot) (some : 0 < n) {i : ℕ} (is-i : i ≡ lig .ligatureId) where
@@ -122,8 +83,8 @@ table-bytes : (t : List ℕ) (off : ℕ) → Bytes t → Bytes (tableAt t off)
 table-bytes t off h = go (eqb off 0)
   where
     go : (z : Bool) → Bytes (if z then [] else drop off t)
-    go true k = omega arith
-    go false k = rw (getD-drop off t k 0) (h (off + k))
+    go true = λ k. omega arith
+    go false = bytes-drop off t h
 
 child-bytes : (t : List ℕ) (at count k : ℕ) → Bytes t → Bytes (childOf t at count k)
 child-bytes t at count k h = go (offsetThere t at count k)

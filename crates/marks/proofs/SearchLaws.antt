@@ -7,6 +7,7 @@ use Prim.Native.Nat.{ℕ, zero, suc, _+_, _-_, _≤_, _<_}
 use native.Mathlib.Omega.{arith}
 use lib.Dec.{eqb}
 use borrow.Author.Tests.{eq-eqb, ne-eqb}
+use Rattle.ints.specs.Choice.{if_then_else_}
 use Rattle.slots.specs.Slot.{Slot}
 use Rattle.slots.specs.Line.{slot}
 use Rattle.slots.specs.Fields.{flagOf}
@@ -81,18 +82,10 @@ module _ (p : ℕ → Bool) where
   nearest-none zero h = refl
   nearest-none (suc n) h = absurd (omega arith)
 
-  pub nearest-here : (j : ℕ) → 0 < j → p (j - 1) ≡ true → nearest p j ≡ some (j - 1)
+  pub nearest-turn : (j : ℕ) → 0 < j → (t : Bool) → p (j - 1) ≡ t → nearest p j ≡ (if t then some (j - 1) else nearest p (j - 1))
   unfolding nearest
-  nearest-here zero h t = absurd (omega arith)
-  nearest-here (suc n) h t =
-      let e : suc n - 1 ≡ n = omega arith in
-      let w : p n ≡ true = rw e at t in
-      rw (w, e)
-
-  pub nearest-next : (j : ℕ) → 0 < j → p (j - 1) ≡ false → nearest p j ≡ nearest p (j - 1)
-  unfolding nearest
-  nearest-next zero h f = absurd (omega arith)
-  nearest-next (suc n) h f =
-      let e : suc n - 1 ≡ n = omega arith in
-      let w : p n ≡ false = rw e at f in
-      rw (w, e)
+  nearest-turn zero h t e = absurd (omega arith)
+  nearest-turn (suc n) h t e =
+      let one : suc n - 1 ≡ n = omega arith in
+      let here : p n ≡ t = rw one at e in
+      rw (here, one)

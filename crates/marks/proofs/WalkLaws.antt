@@ -9,6 +9,7 @@ use lib.IntN.{ℤ}
 use lib.ListN.{length}
 use Rattle.ints.specs.Choice.{if_then_else_}
 use Rattle.ints.specs.Saturating.{plus}
+use Rattle.ints.proofs.TestLaws.{clash}
 use Rattle.counts.specs.Steps.{steps}
 use Rattle.counts.proofs.StepsLaws.{never-done}
 use Rattle.slots.specs.Slot.{Slot}
@@ -35,9 +36,9 @@ climb-in ss i j e = go (cursiveBit (slot ss i .attachType)) e
   where
     go : (b : Bool) → (if b then parent ss i else None) ≡ At j → j < length ss
     go true h = parent-in-line ss i j h
-    go false h = let z : _≡_ {A = ℕ} 0 1 = cc in absurd (omega arith)
+    go false h = clash (cc)
 
--- ---- the walk by the tests that are left: all of them; n, after one that climbs to p; and none
+-- ---- the walk by the tests that are left: all of them; none; and n, where slot i climbs to p
 pub walk-start : (a : Axis) (ss : List Slot) (i n : ℕ) (sum : ℤ) → n ≡ length ss → sum ≡ offset a (slot ss i) → crossWalk a ss i ≡ walkIn n a ss i sum
 unfolding crossWalk
 walk-start a ss i n sum is-n is-sum = rw (is-n, is-sum)
@@ -52,18 +53,11 @@ module _ (a : Axis) (ss : List Slot) where
   unfolding walkIn
   walk-out n i sum h = let e : n ≡ 0 = omega arith in rw e
 
-  module _ (n i : ℕ) (sum : ℤ) (more : 0 < n) where
-    one-less : walkIn n a ss i sum ≡ walkIn (suc (n - 1)) a ss i sum
-    one-less = let e : n ≡ suc (n - 1) = omega arith in ap (λ (m : ℕ). walkIn m a ss i sum) e
-
-    pub walk-none : climb ss i ≡ None → walkIn n a ss i sum ≡ some sum
-    walk-none e = one-less ∙ by-climb (n - 1) i sum None e
-
-    pub walk-outside : climb ss i ≡ Outside → walkIn n a ss i sum ≡ some sum
-    walk-outside e = one-less ∙ by-climb (n - 1) i sum Outside e
-
-    pub walk-on : (j : ℕ) → climb ss i ≡ At j → walkIn n a ss i sum ≡ walkIn (n - 1) a ss j (plus sum (offset a (slot ss j)))
-    walk-on j e = one-less ∙ by-climb (n - 1) i sum (At j) e
+  pub walk-turn : (n i : ℕ) (sum : ℤ) → 0 < n → (p : Parent) → climb ss i ≡ p
+      → walkIn n a ss i sum ≡ byParent p (some sum) (some sum) (λ j. walkIn (n - 1) a ss j (plus sum (offset a (slot ss j))))
+  walk-turn n i sum more p e =
+      let one : n ≡ suc (n - 1) = omega arith in
+      ap (λ (m : ℕ). walkIn m a ss i sum) one ∙ by-climb (n - 1) i sum p e
 
 -- ---- a walk that has not ended
 -- a step taken first or last
@@ -89,8 +83,8 @@ module _ (ss : List Slot) where
   next-in i h = go (climb ss i) refl
     where
       go : (p : Parent) → climb ss i ≡ p → next ss i < length ss
-      go None e = let w = ends-by i None e in let z : _≡_ {A = ℕ} 0 1 = cc in absurd (omega arith)
-      go Outside e = let w = ends-by i Outside e in let z : _≡_ {A = ℕ} 0 1 = cc in absurd (omega arith)
+      go None e = let w = ends-by i None e in clash (cc)
+      go Outside e = let w = ends-by i Outside e in clash (cc)
       go (At j) e = rw (next-at i j e) (climb-in ss i j e)
 
   module _ (a : Axis) where
@@ -102,8 +96,8 @@ module _ (ss : List Slot) where
       where
         go : (p : Parent) → climb ss i ≡ p → ((j : ℕ) (s : ℤ) → walkIn n a ss j s ≡ none → (k : ℕ) → k < n → endsAt ss (up ss j k) ≡ false)
             → (k : ℕ) → k < suc n → endsAt ss (up ss i k) ≡ false
-        go None e rest k l = let w = by-climb a ss n i sum None e in let z : _≡_ {A = ℕ} 0 1 = cc in absurd (omega arith)
-        go Outside e rest k l = let w = by-climb a ss n i sum Outside e in let z : _≡_ {A = ℕ} 0 1 = cc in absurd (omega arith)
+        go None e rest k l = let w = by-climb a ss n i sum None e in clash (cc)
+        go Outside e rest k l = let w = by-climb a ss n i sum Outside e in clash (cc)
         go (At j) e rest zero l = ends-by i (At j) e
         go (At j) e rest (suc k) l =
             let w : walkIn n a ss j (plus sum (offset a (slot ss j))) ≡ none = sym (by-climb a ss n i sum (At j) e) ∙ h in
@@ -117,8 +111,8 @@ module _ (ss : List Slot) where
       where
         go : (p : Parent) → climb ss i ≡ p → ((j : ℕ) (s : ℤ) → ((k : ℕ) → k < n → endsAt ss (up ss j k) ≡ false) → walkIn n a ss j s ≡ none)
             → walkIn (suc n) a ss i sum ≡ none
-        go None e rest = let w = ends-by i None e in let v = h 0 (omega arith) in let z : _≡_ {A = ℕ} 0 1 = cc in absurd (omega arith)
-        go Outside e rest = let w = ends-by i Outside e in let v = h 0 (omega arith) in let z : _≡_ {A = ℕ} 0 1 = cc in absurd (omega arith)
+        go None e rest = let w = ends-by i None e in let v = h 0 (omega arith) in clash (cc)
+        go Outside e rest = let w = ends-by i Outside e in let v = h 0 (omega arith) in clash (cc)
         go (At j) e rest =
             by-climb a ss n i sum (At j) e
             ∙ rest j (plus sum (offset a (slot ss j))) (λ k l. sym (ap (endsAt ss) (up-at i j k e)) ∙ h (suc k) (omega arith))

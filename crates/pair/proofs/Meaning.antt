@@ -1,17 +1,19 @@
 -- What the probe means: in a pair set that is whole and ascends, by halves one finds what the plain reading finds. Assumes nothing.
-use mathlib.Core.Path.{_≡_, refl, sym, ap, subst, _∙_}
+use mathlib.Core.Path.{_≡_, refl, sym, ap, _∙_}
 use mathlib.Core.Logic.{⊎-elim}
 use mathlib.Core.Bool.{true}
 use mathlib.Core.List.{List}
 use mathlib.Core.Option.{Option, some, none}
 use Prim.Native.Nat.{ℕ, zero, suc, _+_, _*_, _≤_, _<_}
-use native.Mathlib.Nat.{add-zero, eq-or-lt-of-le}
+use native.Mathlib.Nat.{add-zero}
 use native.Mathlib.Omega.{arith}
 use lib.Dec.{leb}
 use lib.ListN.{length}
 use borrow.Author.Tests.{eq-eqb, leb-true, ne-eqb}
 use Rattle.ints.specs.BigEndian.{natAt}
-use Rattle.tables.proofs.SpansLaws.{and-right, row-in, side}
+use Rattle.ints.proofs.TestLaws.{and-right}
+use Rattle.tables.specs.Spans.{Span}
+use Rattle.tables.proofs.SpansLaws.{Apart, Between, at-start, go-down, go-up, row-in, side}
 use Rattle.pair.specs.PairSet.{Ascending, firstWith, foundAt, middle, plain, probe, probeIn, recordAt, secondGlyph, whole}
 use Rattle.pair.specs.declared.pair_set.Probe.{Probe}
 use Rattle.pair.specs.declared.pair_set.Probe.the-variants.{Found, Nothing}
@@ -47,38 +49,16 @@ module _ (set : List ℕ) (size g : ℕ) where
       let e = ne-eqb (secondGlyph set size k) g (before k (omega arith) (omega arith)) in
       rw e (first-none n (suc k) (λ i a b. before i (omega arith) (omega arith)))
 
-  -- ---- the probe of n records
-  -- the glyph lies between lo and hi: the records before lo are below it, and those from hi on above it
-  record Between (n lo hi : ℕ) : Type 0 where
-    pub hi-le : hi ≤ n
-    pub below : (k : ℕ) → k < lo → secondGlyph set size k < g
-    pub above : (k : ℕ) → hi ≤ k → k < n → g < secondGlyph set size k
+  -- ---- the probe of n records, as a search by halves of spans of one glyph each
+  abbrev spanOf : ℕ → Span
+  spanOf k = record { first = secondGlyph set size k; last = secondGlyph set size k }
 
   module _ (n : ℕ) (up : (i j : ℕ) → i < j → j < n → secondGlyph set size i < secondGlyph set size j) where
-    go-up : (lo hi m : ℕ) → Between n lo hi → m < hi → secondGlyph set size m < g → Between n (m + 1) hi
-    go-up lo hi m b l e =
-        let hn = b .hi-le in
-        record {
-          hi-le = hn;
-          below = λ k q. ⊎-elim (λ w. subst (λ (x : ℕ). secondGlyph set size x < g) (sym w) e)
-              (λ w. omega (arith, up k m w (omega arith)))
-              (eq-or-lt-of-le (let z : k ≤ m = omega arith in z));
-          above = b .above;
-        }
-
-    go-down : (lo hi m : ℕ) → Between n lo hi → m < hi → g < secondGlyph set size m → Between n lo m
-    go-down lo hi m b l e =
-        let hn = b .hi-le in
-        record {
-          hi-le = omega arith;
-          below = b .below;
-          above = λ k q w. ⊎-elim (λ z. subst (λ (x : ℕ). g < secondGlyph set size x) z e)
-              (λ z. omega (arith, up m k z w))
-              (eq-or-lt-of-le q);
-        }
+    apart : Apart spanOf 0 0 n
+    apart = record { low = λ j h l. omega arith; fair = λ j h l. omega arith; apart = λ i j h l m. up i j l (omega arith) }
 
     -- nothing is left in between
-    nowhere : (lo hi : ℕ) → Between n lo hi → hi ≤ lo → Nothing ≡ told (firstWith set size g 0 n)
+    nowhere : (lo hi : ℕ) → Between spanOf n g lo hi → hi ≤ lo → Nothing ≡ told (firstWith set size g 0 n)
     nowhere lo hi b h =
         sym (ap told (first-none n 0 (λ i p q e.
         ⊎-elim (λ (w : i < hi). omega (arith, b .below i (omega arith))) (λ (w : hi ≤ i). omega (arith, b .above i w (omega arith)))
@@ -91,7 +71,7 @@ module _ (set : List ℕ) (size g : ℕ) where
         let e : secondGlyph set size (0 + m) ≡ g = rw z (omega arith) in
         sym (ap told (rw z at (first-at n 0 m h (λ i p q w. omega (arith, up i m (omega arith) h)) e)))
 
-    means : 2 + size * n ≤ length set → 2 ≤ size → (steps lo hi : ℕ) → hi ≤ lo + steps → Between n lo hi
+    means : 2 + size * n ≤ length set → 2 ≤ size → (steps lo hi : ℕ) → hi ≤ lo + steps → Between spanOf n g lo hi
         → probeIn steps set size g lo hi ≡ told (firstWith set size g 0 n)
     means fits wide zero lo hi h b = rw (probe-over set size g zero lo hi (omega arith)) (nowhere lo hi b (omega arith))
     means fits wide (suc k) lo hi h b = ⊎-elim
@@ -102,11 +82,11 @@ module _ (set : List ℕ) (size g : ℕ) where
         let w : recordAt size m + 2 ≤ length set = omega (arith, row-in size m n mn) in
         ⊎-elim
         (λ (u : g < secondGlyph set size m).
-        rw (probe-down set size g k lo hi l w u) (means fits wide k lo m (omega arith) (go-down lo hi m b (omega arith) u)))
+        rw (probe-down set size g k lo hi l w u) (means fits wide k lo m (omega arith) (go-down spanOf n g lo hi apart b m (omega arith) (omega arith) u)))
         (λ (u : secondGlyph set size m ≤ g).
         ⊎-elim
         (λ (v : secondGlyph set size m < g).
-        rw (probe-up set size g k lo hi l w v) (means fits wide k (m + 1) hi (omega arith) (go-up lo hi m b (omega arith) v)))
+        rw (probe-up set size g k lo hi l w v) (means fits wide k (m + 1) hi (omega arith) (go-up spanOf n g lo hi apart b m (omega arith) (omega arith) v)))
         (λ (v : g ≤ secondGlyph set size m). rw (probe-hit set size g k lo hi l w u v) (here m mn u v))
         (side (secondGlyph set size m) g))
         (side g (secondGlyph set size m)))
@@ -118,7 +98,7 @@ module _ (set : List ℕ) (size g : ℕ) where
   probe-told wide e up =
       let n = natAt 2 set 0 in
       means n up (leb-true (2 + size * n) (length set) (and-right (leb 2 (length set)) _ e)) wide n 0 n (omega arith)
-      record { hi-le = omega arith; below = λ k h. absurd (omega arith); above = λ k h l. absurd (omega arith) }
+      (at-start spanOf n g)
 
   -- it finds what the plain reading finds
   pub probe-means : 2 ≤ size → whole set size ≡ true → Ascending set size → foundAt (probe set size g) ≡ plain set size g

@@ -8,11 +8,11 @@ use lib.Dec.{leb}
 use lib.ListN.{length}
 use borrow.Author.Tests.{eq-eqb, le-leb, leb-true, lt-leb, ne-eqb}
 use Rattle.ints.specs.BigEndian.{natAt}
+use Rattle.ints.proofs.TestLaws.{and-left, and-right}
 use Rattle.tables.specs.ClassDef.{classGoodAt}
 use Rattle.tables.specs.Coverage.{coverageGoodAt}
 use Rattle.tables.specs.Header.{headerGood, posFormat}
 use Rattle.tables.proofs.HeaderLaws.{Header, header}
-use Rattle.tables.proofs.SpansLaws.{and-left, and-right}
 use Rattle.pair.specs.PairPos.{classesGood, format1, format2, pairGood}
 
 -- ---- what a good subtable has

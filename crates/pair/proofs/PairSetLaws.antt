@@ -1,8 +1,7 @@
 -- Laws of the probe of a pair set: one step at a time, however many steps are left so long as they are enough. Assumes nothing.
 use mathlib.Core.Path.{_≡_, refl, _∙_}
 use mathlib.Core.List.{List}
-use Prim.Native.Nat.{ℕ, zero, suc, _+_, _*_, _≤_, _<_}
-use native.Mathlib.Nat.{mul-le-mul}
+use Prim.Native.Nat.{ℕ, zero, suc, _+_, _≤_, _<_}
 use native.Mathlib.Omega.{arith}
 use lib.ListN.{length}
 use borrow.Author.Tests.{le-ltb, lt-ltb}
@@ -65,35 +64,23 @@ module _ {set : List ℕ} {size g lo hi : ℕ} {all : Probe} (l : Left set size 
   over h = l .same ∙ probe-over set size g (l .steps) lo hi h
 
   module _ (h : lo < hi) where
-    pub cut : length set < recordAt size (middle lo hi) + 2 → all ≡ Cut
-    cut c = go (l .steps) (l .enough) (l .same)
+    -- while a record is left, so is a step
+    step : {P : Type 0} → ((n : ℕ) → hi ≤ lo + suc n → all ≡ probeIn (suc n) set size g lo hi → P) → P
+    step {P} f = go (l .steps) (l .enough) (l .same)
       where
-        go : (n : ℕ) → hi ≤ lo + n → all ≡ probeIn n set size g lo hi → all ≡ Cut
+        go : (n : ℕ) → hi ≤ lo + n → all ≡ probeIn n set size g lo hi → P
         go zero e q = absurd (omega arith)
-        go (suc n) e q = q ∙ probe-cut set size g n lo hi h c
+        go (suc n) e q = f n e q
+
+    pub cut : length set < recordAt size (middle lo hi) + 2 → all ≡ Cut
+    cut c = step (λ n e q. q ∙ probe-cut set size g n lo hi h c)
 
     module _ (w : recordAt size (middle lo hi) + 2 ≤ length set) where
       pub down : g < secondGlyph set size (middle lo hi) → Left set size g all lo (middle lo hi)
-      down b = go (l .steps) (l .enough) (l .same)
-        where
-          go : (n : ℕ) → hi ≤ lo + n → all ≡ probeIn n set size g lo hi → Left set size g all lo (middle lo hi)
-          go zero e q = absurd (omega arith)
-          go (suc n) e q = record { steps = n; enough = omega arith; same = q ∙ probe-down set size g n lo hi h w b }
+      down b = step (λ n e q. record { steps = n; enough = omega arith; same = q ∙ probe-down set size g n lo hi h w b })
 
       pub up : secondGlyph set size (middle lo hi) < g → Left set size g all (middle lo hi + 1) hi
-      up b = go (l .steps) (l .enough) (l .same)
-        where
-          go : (n : ℕ) → hi ≤ lo + n → all ≡ probeIn n set size g lo hi → Left set size g all (middle lo hi + 1) hi
-          go zero e q = absurd (omega arith)
-          go (suc n) e q = record { steps = n; enough = omega arith; same = q ∙ probe-up set size g n lo hi h w b }
+      up b = step (λ n e q. record { steps = n; enough = omega arith; same = q ∙ probe-up set size g n lo hi h w b })
 
       pub hit : secondGlyph set size (middle lo hi) ≤ g → g ≤ secondGlyph set size (middle lo hi) → all ≡ Found (recordAt size (middle lo hi))
-      hit a b = go (l .steps) (l .enough) (l .same)
-        where
-          go : (n : ℕ) → hi ≤ lo + n → all ≡ probeIn n set size g lo hi → all ≡ Found (recordAt size (middle lo hi))
-          go zero e q = absurd (omega arith)
-          go (suc n) e q = q ∙ probe-hit set size g n lo hi h w a b
-
--- a record's place is small
-pub small : (size k : ℕ) → size ≤ 34 → k ≤ 65536 → size * k ≤ 2228224
-small size k h l = mul-le-mul h l
+      hit a b = step (λ n e q. q ∙ probe-hit set size g n lo hi h w a b)

@@ -3,7 +3,6 @@ use mathlib.Core.Path.{_≡_, sym, ap, _∙_}
 use mathlib.Core.Bool.{Bool, true, false}
 use mathlib.Core.List.{List, [], _∷_}
 use Prim.Native.Nat.{ℕ, _+_, _*_, _≤_, _<_}
-use native.Mathlib.Nat.{le-of-lt, mul-le-mul}
 use native.Mathlib.Omega.{arith}
 use lib.Dec.{eqb}
 use lib.ListN.{drop, length, length-drop}
@@ -76,13 +75,6 @@ module _ (t : List ℕ) (idx second c₁ c₂ n₁ n₂ : ℕ) (e₁ : n₁ ≡ 
       pub record-there : 16 + size * (c₁ * n₂ + c₂) + size ≤ length t
           → adjust t (16 + size * (c₁ * n₂ + c₂)) second ≡ fromClasses t idx second c₁ c₂
       record-there h = rw (← e₁, ← e₂, ← e) (simp (lt-ltb c₁ n₁ h₁, lt-ltb c₂ n₂ h₂, le-leb (16 + size * (c₁ * n₂ + c₂) + size) (length t) h))
-
--- the place of a record of two classes is a small number
-pub classes-small : (c n : ℕ) → c < 65536 → n < 65536 → c * n ≤ 4294967296
-classes-small c n h l = mul-le-mul (le-of-lt h) (le-of-lt l)
-
-pub place-small : (size k : ℕ) → size ≤ 32 → k ≤ 4295032832 → size * k ≤ 137441050624
-place-small size k h l = mul-le-mul h l
 
 -- ---- the two formats; p is the plan that code has
 module _ (t : List ℕ) (ss : List Slot) (idx k second : ℕ) (p : Plan) where

@@ -9,6 +9,7 @@ use lib.Dec.{leb}
 use lib.ListN.{length}
 use borrow.Author.Tests.{leb-true}
 use Rattle.ints.specs.BigEndian.{natAt}
+use Rattle.ints.proofs.TestLaws.{and-left, and-right}
 use Rattle.slots.specs.Slot.{Slot}
 use Rattle.slots.specs.Line.{slot, update}
 use Rattle.slots.specs.declared.axis.Direction.{Direction}
@@ -16,7 +17,6 @@ use Rattle.tables.specs.Coverage.{coverageAt, coverageGoodAt}
 use Rattle.tables.specs.Header.{headerGood}
 use Rattle.tables.specs.declared.coverage.Covered.{Covered}
 use Rattle.tables.proofs.HeaderLaws.{header}
-use Rattle.tables.proofs.SpansLaws.{and-left, and-right}
 use Rattle.values.specs.Format.{recordAt}
 use Rattle.values.specs.Value.{valued}
 use Rattle.answers.specs.Said.{applied, declined}

@@ -1,4 +1,4 @@
--- A write to a slot's bytes is a change of one field: one law for the four bytes, one for the four measures. Assumes nothing.
+-- A write to a slot's bytes is a change of one field: one law for the four fields of one byte, one for the four measures. Assumes nothing.
 use mathlib.Core.Path.{_≡_, refl}
 use mathlib.Core.List.{List, []}
 use Prim.Native.Nat.{ℕ, _<_}
@@ -9,7 +9,7 @@ use Rattle.ints.specs.BigEndian.{digits, natAt, withNat}
 use Rattle.ints.specs.Signed.{InBytes, intAt, signed, withInt}
 use Rattle.ints.proofs.BigEndianLaws.{natAt-digits}
 use Rattle.ints.proofs.SignedLaws.{intAt-digits}
-use Rattle.slots.specs.Slot.{slotOf, slotSize}
+use Rattle.slots.specs.Slot.{Slot, slotOf, slotSize}
 use Rattle.slots.specs.Fields.{byteAt, byteOf, measure, measureAt, withByte, withChain, withGlyph, withMeasure}
 use Rattle.slots.specs.Start.{unattached}
 use Rattle.slots.specs.declared.axis.Axis.{Axis}
@@ -59,7 +59,14 @@ module _ (z : ℤ) (h : InBytes 4 z) where
   measure-put Offset X = by-cells (λ (q : List ℕ). slotOf (withInt 4 q 16 z) ≡ withMeasure Offset X z (slotOf q)) (λ g. rw (intAt-digits 4 z (omega arith) h []))
   measure-put Offset Y = by-cells (λ (q : List ℕ). slotOf (withInt 4 q 20 z) ≡ withMeasure Offset Y z (slotOf q)) (λ g. rw (intAt-digits 4 z (omega arith) h []))
 
--- type and chain set to 0
+-- ---- another chain leaves the advances and the offsets
+pub measure-chain : (m : Measure) (a : Axis) (c : ℤ) (s : Slot) → measure m a (withChain c s) ≡ measure m a s
+measure-chain Advance X c s = refl
+measure-chain Advance Y c s = refl
+measure-chain Offset X c s = refl
+measure-chain Offset Y c s = refl
+
+-- ---- type and chain set to 0
 pub clear-put : (p : List ℕ) → length p ≡ slotSize → slotOf (set (set (set p 5 0) 6 0) 7 0) ≡ unattached (slotOf p)
 unfolding slotOf natAt intAt signed
 clear-put = by-cells (λ (p : List ℕ). slotOf (set (set (set p 5 0) 6 0) 7 0) ≡ unattached (slotOf p)) (λ g. refl)

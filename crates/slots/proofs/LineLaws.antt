@@ -4,9 +4,10 @@ use mathlib.Core.List.{List, [], _∷_, _++_, append-assoc}
 use Prim.Native.Nat.{ℕ, zero, suc, _+_, _-_, _*_, _/_, _%_, _<_, _≤_}
 use native.Mathlib.Omega.{arith}
 use lib.ListN.{length, getD, set, take, drop, length-append, length-drop, length-set, take-append-drop}
-use lib.Seq.{take-at, drop-at, drop-drop, take-add, length-take-le, getD-drop, getD-set-other, getD-set-same, set-set, slice, take-nil}
+use lib.Seq.{take-at, drop-at, drop-drop, take-add, length-take-le, getD-set-other, getD-set-same, set-getD, set-set, slice, take-nil}
 use borrow.Rule.Slice.PartMut.{midOf, putMid, same-len-mid}
 use Rattle.ints.specs.BigEndian.{Bytes}
+use Rattle.ints.proofs.BigEndianLaws.{bytes-drop, bytes-take}
 use Rattle.slots.specs.Slot.{Slot, bytesOf, noSlot, slotOf, slotSize}
 use Rattle.slots.specs.Line.{AllStorable, bytes, count, slot, slots, slotsN, update}
 use Rattle.slots.proofs.SlotLaws.{bytesOf-slotOf, length-bytesOf, slotOf-bytesOf, slotOf-storable}
@@ -39,7 +40,7 @@ partOf l i = take 24 (drop (i * 24) l)
 abbrev pub withPart : List ℕ → ℕ → List ℕ → List ℕ
 withPart l i q = take (i * 24) l ++ (q ++ drop 24 (drop (i * 24) l))
 
-pub length-part : (l : List ℕ) (i : ℕ) → i * 24 + 24 ≤ length l → length (partOf l i) ≡ 24
+length-part : (l : List ℕ) (i : ℕ) → i * 24 + 24 ≤ length l → length (partOf l i) ≡ 24
 length-part l i h = length-take-le 24 (drop (i * 24) l) (simp length-drop (omega arith))
 
 pub getD-slotsN : (n i : ℕ) (l : List ℕ) (d : Slot) → i < n → getD (slotsN n l) i d ≡ slotOf (partOf l i)
@@ -64,15 +65,6 @@ put-slotsN (suc n) (suc i) l q h w e =
     (ap (λ (ss : List Slot). slotOf (take 24 l) ∷ ss) (put-slotsN n i (drop 24 l) q (omega arith) k e))
 
 -- ---- bytes to slots and back
-bytes-take : (n : ℕ) (l : List ℕ) → Bytes l → Bytes (take n l)
-bytes-take zero l h k = omega arith
-bytes-take (suc n) [] h k = omega arith
-bytes-take (suc n) (x ∷ l) h zero = h 0
-bytes-take (suc n) (x ∷ l) h (suc k) = bytes-take n l (λ j. h (suc j)) k
-
-bytes-drop : (n : ℕ) (l : List ℕ) → Bytes l → Bytes (drop n l)
-bytes-drop n l h k = rw (getD-drop n l k 0) (h (n + k))
-
 bytes-slotsN : (n : ℕ) (l : List ℕ) → length l ≡ n * 24 → Bytes l → bytes (slotsN n l) ≡ l
 unfolding bytes slotsN
 bytes-slotsN zero [] e h = refl
@@ -123,26 +115,44 @@ pub slots-storable : (l : List ℕ) → Bytes l → AllStorable (slots l)
 unfolding slots
 slots-storable l h = storable-slotsN (count l) l h
 
--- ---- a slot's bytes lent: k is the part's length, as the code computes it, and q is what came back
-pub line-get : (l : List ℕ) (i k : ℕ) → i < count l → k ≡ slotSize → slotOf (midOf (i * slotSize) k l) ≡ slot (slots l) i
-unfolding slots
-line-get l i k h e = rw e (sym (getD-slotsN (count l) i l noSlot h))
+-- ---- slot i's bytes, lent as code lends them: from i * slotSize to i * slotSize + slotSize
+abbrev pub lentLength : ℕ → ℕ
+lentLength i = i * slotSize + slotSize - i * slotSize
 
-line-put : (l q : List ℕ) (i k : ℕ) → i < count l → k ≡ slotSize → length q ≡ length (midOf (i * slotSize) k l) → slots (putMid (i * slotSize) k l q) ≡ set (slots l) i (slotOf q)
-unfolding slots
-line-put l q i k h e lq =
-    let le : length (midOf (i * 24) k l) ≡ 24 = rw e (length-part l i (omega arith)) in
-    let ll : length (putMid (i * 24) k l q) ≡ length l = same-len-mid (i * 24) k l q lq in
-    rw (ll, e) (put-slotsN (count l) i l q h (omega arith) (lq ∙ le))
+abbrev pub lent : List ℕ → ℕ → List ℕ
+lent l i = midOf (i * slotSize) (lentLength i) l
 
--- what a callee that changes the lent slot by f makes of the line
-pub line-update : (f : Slot → Slot) (l q : List ℕ) (i k : ℕ) → i < count l → k ≡ slotSize → length q ≡ length (midOf (i * slotSize) k l)
-    → slotOf q ≡ f (slotOf (midOf (i * slotSize) k l)) → slots (putMid (i * slotSize) k l q) ≡ update i f (slots l)
-unfolding update
-line-update f l q i k h e lq sq =
-    line-put l q i k h e lq ∙ ap (λ (s : Slot). set (slots l) i s) (sq ∙ ap f (line-get l i k h e))
+module _ (l : List ℕ) (i : ℕ) (h : i < count l) where
+  whole : lentLength i ≡ slotSize
+  whole = omega arith
+
+  pub lent-length : length (lent l i) ≡ slotSize
+  lent-length = rw whole (length-part l i (omega arith))
+
+  -- they are slot i
+  pub line-get : slotOf (lent l i) ≡ slot (slots l) i
+  unfolding slots
+  line-get = rw whole (sym (getD-slotsN (count l) i l noSlot h))
+
+  -- and the line where q came back for them has q's slot in its place
+  line-put : (q : List ℕ) → length q ≡ length (lent l i) → slots (putMid (i * slotSize) (lentLength i) l q) ≡ set (slots l) i (slotOf q)
+  unfolding slots
+  line-put q lq =
+      let ll : length (putMid (i * slotSize) (lentLength i) l q) ≡ length l = same-len-mid (i * slotSize) (lentLength i) l q lq in
+      rw (ll, whole) (put-slotsN (count l) i l q h (omega arith) (lq ∙ lent-length))
+
+  -- so a callee that changes the lent slot by f changes slot i of the line by f
+  pub line-update : (f : Slot → Slot) (q : List ℕ) → length q ≡ length (lent l i) → slotOf q ≡ f (slotOf (lent l i))
+      → slots (putMid (i * slotSize) (lentLength i) l q) ≡ update i f (slots l)
+  unfolding update
+  line-update f q lq sq = line-put q lq ∙ ap (λ (s : Slot). set (slots l) i s) (sq ∙ ap f line-get)
 
 -- ---- one slot changed
+-- a change that leaves the slot leaves the line
+pub update-none : (i : ℕ) (ss : List Slot) → update i (λ s. s) ss ≡ ss
+unfolding update
+update-none i ss = set-getD ss i noSlot
+
 module _ (i : ℕ) (f : Slot → Slot) (ss : List Slot) where
   pub update-same : i < length ss → slot (update i f ss) i ≡ f (slot ss i)
   unfolding update

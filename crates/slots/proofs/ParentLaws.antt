@@ -9,6 +9,7 @@ use lib.IntN.{ℤ, pos, negsuc, _+ℤ_, _-ℤ_}
 use lib.ListN.{length, List·getD-eq-default}
 use Rattle.ints.specs.Signed.{signed, val}
 use Rattle.ints.proofs.Ints.{bal, bal-add, by-sign, diff, eq-diff, eq-in, pos-add-diff, pos-diff, same, sub-pos}
+use Rattle.ints.proofs.TestLaws.{clash}
 use Rattle.slots.specs.Slot.{Slot, noSlot}
 use Rattle.slots.specs.Line.{slot, update}
 use Rattle.slots.specs.Fields.{withChain}
@@ -17,19 +18,12 @@ use Rattle.slots.specs.declared.parent.Parent.{Parent}
 use Rattle.slots.specs.declared.parent.Parent.the-variants.{None, Outside, At}
 use Rattle.slots.proofs.LineLaws.{length-update, update-other, update-same}
 
--- ---- the three kinds are apart
-none-at : {p : Parent} {j : ℕ} → p ≡ None → p ≡ At j → ⊥
-none-at e f = let z : _≡_ {A = ℕ} 0 1 = cc in omega arith
+-- ---- the three kinds are apart: where there is no parent in the line, a chain ends
+pub none-ends : {p : Parent} → p ≡ None → (j : ℕ) → p ≡ At j → ⊥
+none-ends e j f = clash (cc)
 
-outside-at : {p : Parent} {j : ℕ} → p ≡ Outside → p ≡ At j → ⊥
-outside-at e f = let z : _≡_ {A = ℕ} 0 1 = cc in omega arith
-
--- so a slot without a parent in the line ends its chain
-pub none-ends : (l : List Slot) (i : ℕ) → parent l i ≡ None → (j : ℕ) → parent l i ≡ At j → ⊥
-none-ends l i e j f = none-at e f
-
-pub outside-ends : (l : List Slot) (i : ℕ) → parent l i ≡ Outside → (j : ℕ) → parent l i ≡ At j → ⊥
-outside-ends l i e j f = outside-at e f
+pub outside-ends : {p : Parent} → p ≡ Outside → (j : ℕ) → p ≡ At j → ⊥
+outside-ends e j f = clash (cc)
 
 -- ---- a parent in the line: it and its child are in the line, and the chain is the distance
 placed-at : (n : ℕ) (z : ℤ) (j : ℕ) → placed n z ≡ At j → (j < n) × (z ≡ pos j)
@@ -37,11 +31,11 @@ placed-at n (pos k) j e = go (decLt k n)
   where
     go : Dec (k < n) → (j < n) × (pos k ≡ pos j)
     go (yes lt) = let f : At k ≡ At j = rw (lt-ltb k n lt) at e in let is : k ≡ j = cc in (omega arith, ap pos is)
-    go (no ge) = let f : Outside ≡ At j = rw (le-ltb k n (omega arith)) at e in absurd (outside-at refl f)
-placed-at n (negsuc k) j e = absurd (outside-at refl e)
+    go (no ge) = let f : Outside ≡ At j = rw (le-ltb k n (omega arith)) at e in absurd (outside-ends refl j f)
+placed-at n (negsuc k) j e = absurd (outside-ends refl j e)
 
 by-at : (n i : ℕ) (z : ℤ) (j : ℕ) → parentBy n i z ≡ At j → (j < n) × (pos i +ℤ z ≡ pos j)
-by-at n i (pos zero) j e = absurd (none-at refl e)
+by-at n i (pos zero) j e = absurd (none-ends refl j e)
 by-at n i (pos (suc c)) j e = placed-at n (pos i +ℤ pos (suc c)) j e
 by-at n i (negsuc c) j e = placed-at n (pos i +ℤ negsuc c) j e
 
@@ -55,7 +49,7 @@ child-in-line l i j e = go (decLt i (length l))
   where
     go : Dec (i < length l) → i < length l
     go (yes lt) = lt
-    go (no ge) = let f : None ≡ At j = rw (List·getD-eq-default l noSlot {n = i} (omega arith)) at e in absurd (none-at refl f)
+    go (no ge) = let f : None ≡ At j = rw (List·getD-eq-default l noSlot {n = i} (omega arith)) at e in absurd (none-ends refl j f)
 
 pub chain-is : (l : List Slot) (i j : ℕ) → parent l i ≡ At j → slot l i .chain ≡ diff j i
 unfolding parent
@@ -82,9 +76,9 @@ placed-some : (n : ℕ) (z : ℤ) → placed n z ≡ None → ⊥
 placed-some n (pos k) e = go (decLt k n)
   where
     go : Dec (k < n) → ⊥
-    go (yes lt) = let f : At k ≡ None = rw (lt-ltb k n lt) at e in none-at f refl
-    go (no ge) = let f : Outside ≡ None = rw (le-ltb k n (omega arith)) at e in let z : _≡_ {A = ℕ} 0 1 = cc in omega arith
-placed-some n (negsuc k) e = let z : _≡_ {A = ℕ} 0 1 = cc in omega arith
+    go (yes lt) = let f : At k ≡ None = rw (lt-ltb k n lt) at e in none-ends f k refl
+    go (no ge) = let f : Outside ≡ None = rw (le-ltb k n (omega arith)) at e in clash (cc)
+placed-some n (negsuc k) e = clash (cc)
 
 none-zero : (n i : ℕ) (c : ℤ) → parentBy n i c ≡ None → c ≡ pos 0
 none-zero n i (pos zero) e = refl
@@ -101,10 +95,10 @@ parent-none l i e = rw e
 
 -- a slot with a parent, in the line or outside it, is attached
 pub outside-hangs : (l : List Slot) (i : ℕ) → parent l i ≡ Outside → slot l i .chain ≡ pos 0 → ⊥
-outside-hangs l i e z = let f = parent-none l i z in let w : _≡_ {A = ℕ} 0 1 = cc in omega arith
+outside-hangs l i e z = let f = parent-none l i z in clash (cc)
 
 pub at-hangs : (l : List Slot) (i j : ℕ) → parent l i ≡ At j → slot l i .chain ≡ pos 0 → ⊥
-at-hangs l i j e z = none-at (parent-none l i z) e
+at-hangs l i j e z = none-ends (parent-none l i z) j e
 
 -- the parent is the same in a line of as many slots with the same slot
 pub parent-same : (l m : List Slot) (i : ℕ) → length m ≡ length l → slot m i ≡ slot l i → parent m i ≡ parent l i

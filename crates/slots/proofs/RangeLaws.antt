@@ -9,7 +9,7 @@ use lib.Bits.{bitOr, and-le-l, and-le-r, or-add-and, or-lt, or-mod, or-shr}
 use lib.Dec.{ltb}
 use Rattle.slots.specs.Checks.{anyOutOfRange}
 
--- above 2 ^ k - 1
+-- the bits of two numbers together are above 2 ^ k - 1 where one of the numbers is
 or-above : (k m a b : ℕ) → suc m ≡ 2 ^ k → ltb m (bitOr a b) ≡ (ltb m a || ltb m b)
 or-above k m a b e = go (decLt m a) (decLt m b)
   where
@@ -18,6 +18,7 @@ or-above k m a b e = go (decLt m a) (decLt m b)
     go (no p) (yes q) = rw (le-ltb m a (omega arith), lt-ltb m b q) (lt-ltb m (bitOr a b) (omega (arith, or-add-and a b, and-le-l a b)))
     go (no p) (no q) = rw (le-ltb m a (omega arith), le-ltb m b (omega arith)) (le-ltb m (bitOr a b) (omega (arith, or-lt k a b (omega arith) (omega arith))))
 
+-- three tests of each of two slots, put together field by field and slot by slot
 three : (a b c x y z : Bool) → ((a || x) || ((b || y) || (c || z))) ≡ ((a || (b || c)) || (x || (y || z)))
 three true b c x y z = refl
 three false true c true y z = refl
@@ -27,6 +28,7 @@ three false false true false true z = refl
 three false false true false false z = refl
 three false false false x y z = refl
 
+-- so of the small fields of two slots, one is out of range where their bits together are
 pub or-out : (a b : ℕ) → anyOutOfRange (bitOr a b) ≡ (anyOutOfRange a || anyOutOfRange b)
 or-out a b =
     rw (

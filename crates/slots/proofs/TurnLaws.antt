@@ -14,6 +14,7 @@ mapTo f zero l = l
 mapTo f (suc i) [] = []
 mapTo f (suc i) (x ∷ l) = f x ∷ mapTo f i l
 
+-- one slot more
 mapTo-suc : (f : Slot → Slot) (i : ℕ) (l : List Slot) → i < length l → update i f (mapTo f i l) ≡ mapTo f (suc i) l
 unfolding update
 mapTo-suc f i [] h = absurd (omega arith)
@@ -23,6 +24,7 @@ mapTo-suc f (suc i) (x ∷ l) h = ap (λ (t : List Slot). f x ∷ t) (mapTo-suc 
 pub mapTo-more : (f : Slot → Slot) (i : ℕ) (l : List Slot) → i < length l → update i f (mapTo f i l) ≡ mapTo f (i + 1) l
 mapTo-more f i l h = rw add-one (mapTo-suc f i l h)
 
+-- all of them
 pub mapTo-all : (f : Slot → Slot) (l : List Slot) → mapTo f (length l) l ≡ map f l
 mapTo-all f [] = refl
 mapTo-all f (x ∷ l) = ap (λ (t : List Slot). f x ∷ t) (mapTo-all f l)

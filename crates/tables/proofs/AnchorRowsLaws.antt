@@ -1,4 +1,4 @@
--- Laws of the numbers of rows and columns. Assumes nothing.
+-- Laws of the numbers of rows and columns: how large they are. Assumes nothing.
 use mathlib.Core.Path.{_≡_}
 use mathlib.Core.Bool.{Bool, true, false, _&&_}
 use mathlib.Core.List.{List}
@@ -10,10 +10,11 @@ use lib.ListN.{length}
 use Rattle.ints.specs.BigEndian.{Bytes, natAt}
 use Rattle.ints.specs.Choice.{if_then_else_}
 use Rattle.ints.proofs.BigEndianLaws.{natAt-fits}
+use Rattle.ints.proofs.TestLaws.{clash}
 use Rattle.tables.specs.AnchorRows.{rowsOf}
 use Rattle.tables.specs.declared.anchor_rows.Rows.the-variants.{Of, Absent}
 
--- a table of two counts of 16 bits has a number of places that is below 2 ^ 32
+-- the product of two numbers of 16 bits, as the places in a table of so many rows and columns, is below 2 ^ 32
 pub places-few : (rows columns : ℕ) → rows < 65536 → columns < 65536 → rows * columns < 4294967296
 places-few rows columns h l =
     let r : rows ≤ 65535 = omega arith in
@@ -30,4 +31,4 @@ rows-few t columns n b e =
   where
     known : (there : Bool) (m n : ℕ) → (if there then Of m else Absent) ≡ Of n → m ≡ n
     known true m n e = cc
-    known false m n e = let z : _≡_ {A = ℕ} 0 1 = cc in absurd (omega arith)
+    known false m n e = clash (cc)

@@ -1,36 +1,23 @@
--- Laws of class lists: what the check says of a list's bytes, and one equation of a glyph's class for each way through the lookup. Assumes
+-- Laws of class lists: what the check says of a list's array, and one equation of a glyph's class for each way through the lookup. Assumes
 -- nothing.
 use mathlib.Core.Path.{_≡_}
-use mathlib.Core.Bool.{true, _&&_}
+use mathlib.Core.Bool.{true}
 use mathlib.Core.List.{List}
 use Prim.Native.Nat.{ℕ, _+_, _-_, _*_, _≤_, _<_}
-use lib.Dec.{eqb, leb, ltb}
+use lib.Dec.{leb}
 use lib.ListN.{length}
-use borrow.Author.Tests.{eq-eqb, le-leb, le-ltb, leb-true, lt-leb, lt-ltb, ltb-false, ne-eqb}
+use borrow.Author.Tests.{eq-eqb, le-leb, le-ltb, leb-true, lt-leb, lt-ltb, ne-eqb}
 use Rattle.ints.specs.BigEndian.{natAt}
-use Rattle.tables.specs.Spans.{ascends, firstHolding, rangeSpans}
-use Rattle.tables.specs.Coverage.{wholeSpans}
+use Rattle.ints.proofs.TestLaws.{and-left, and-right}
+use Rattle.tables.specs.Spans.{firstHolding, rangeSpans}
 use Rattle.tables.specs.ClassDef.{classGood, classOf}
-use Rattle.tables.proofs.SpansLaws.{and-left, and-right}
-use Rattle.tables.proofs.CoverageLaws.{Passed, Sound, passed, sound}
+use Rattle.tables.proofs.CoverageLaws.{one-good}
 
--- ---- a list that passed the check
-module _ (t : List ℕ) (good : classGood t ≡ true) where
-  by-format : Passed (ltb (length t) 4) (eqb (natAt 2 t 0) 1)
-      (leb 6 (length t) && leb (6 + 2 * natAt 2 t 4) (length t))
-      (wholeSpans t 6 (natAt 2 t 2) && ascends 0 (rangeSpans t (natAt 2 t 2)))
-  by-format = passed (ltb (length t) 4) (eqb (natAt 2 t 0) 1) (eqb (natAt 2 t 0) 2) _ _ good
-
-  pub header : 4 ≤ length t
-  header = ltb-false (length t) 4 (by-format .not-cut)
-
-  pub array-whole : natAt 2 t 0 ≡ 1 → (6 ≤ length t) × (6 + 2 * natAt 2 t 4 ≤ length t)
-  array-whole h =
-      let e = by-format .first (eq-eqb (natAt 2 t 0) 1 h) in
-      (leb-true 6 (length t) (and-left _ _ e), leb-true (6 + 2 * natAt 2 t 4) (length t) (and-right (leb 6 (length t)) _ e))
-
-  pub ranges-sound : (n : ℕ) → n ≡ natAt 2 t 2 → (natAt 2 t 0 ≡ 1 → ⊥) → Sound t 6 2 n
-  ranges-sound n e h = rw e (sound t 6 2 (natAt 2 t 2) (by-format .second (ne-eqb (natAt 2 t 0) 1 h)))
+-- the array of a list of format 1 that passed the check
+pub array-whole : (t : List ℕ) → classGood t ≡ true → natAt 2 t 0 ≡ 1 → (6 ≤ length t) × (6 + 2 * natAt 2 t 4 ≤ length t)
+array-whole t good h =
+    let e = one-good t _ good h in
+    (leb-true 6 (length t) (and-left _ _ e), leb-true (6 + 2 * natAt 2 t 4) (length t) (and-right (leb 6 (length t)) _ e))
 
 -- ---- a glyph's class in a list of format 1: before the array, in it, past it
 module _ (t : List ℕ) (g start count : ℕ) (one : natAt 2 t 0 ≡ 1) (s : start ≡ natAt 2 t 2) (n : count ≡ natAt 2 t 4) where

@@ -5,12 +5,12 @@ use mathlib.Core.List.{List, []}
 use Prim.Native.Nat.{ℕ, _-_, _≤_, _<_}
 use native.Mathlib.Decide.{decLe}
 use native.Mathlib.Nat.{le-of-eq, le-of-lt, lt-of-not-le}
-use native.Mathlib.Omega.{arith}
 use lib.Dec.{eqb}
 use lib.ListN.{length, take, drop, length-drop, drop-of-length-le}
 use lib.Seq.{take-all}
 use borrow.Author.Tests.{eq-eqb, ne-eqb}
 use Rattle.ints.specs.Choice.{if_then_else_}
+use Rattle.ints.proofs.TestLaws.{clash}
 
 -- the part of a slice from a place to the end
 pub to-end : (s : List ℕ) (off : ℕ) → take (length s - off) (drop off s) ≡ drop off s
@@ -43,7 +43,7 @@ module _ (good : List ℕ → Bool) (empty : good [] ≡ false) (s : List ℕ) (
     where
       go : Dec (off ≤ length s) → off ≤ length s
       go (yes h) = h
-      go (no h) = let w = ap good (past-end s off (lt-of-not-le h)) in let t = there in let z : _≡_ {A = ℕ} 0 1 = cc in absurd (omega arith)
+      go (no h) = let w = ap good (past-end s off (lt-of-not-le h)) in let t = there in clash (cc)
 
   pub passed-part : good (take (length s - off) (drop off s)) ≡ true
   passed-part = ap good (to-end s off) ∙ there

@@ -12,6 +12,7 @@ use native.Mathlib.Omega.{arith}
 use lib.Dec.{leb}
 use borrow.Author.Tests.{le-leb, leb-true, lt-leb}
 use Rattle.ints.specs.Choice.{if_then_else_}
+use Rattle.ints.proofs.TestLaws.{and-left, and-right}
 use Rattle.tables.specs.Spans.{Span, ascends, firstHolding, holds, spansFrom}
 
 -- ---- rows of an array
@@ -23,22 +24,13 @@ next-row d k = ap (λ (m : ℕ). d * m) (add-one k) ∙ mul-suc d k
 pub row-in : (d k n : ℕ) → k < n → d * k + d ≤ d * n
 row-in d k n h = subst (λ (m : ℕ). m ≤ d * n) (mul-suc d k) (mul-le-mul-left d h)
 
--- one number is below another, or not
+-- ---- one number is below another, or not
 pub side : (i m : ℕ) → (i < m) ⊎ (m ≤ i)
 side i m = go (decLe m i)
   where
     go : Dec (m ≤ i) → (i < m) ⊎ (m ≤ i)
     go (yes h) = inr h
     go (no h) = inl (lt-of-not-le h)
-
--- ---- two tests that both hold
-pub and-left : (a b : Bool) → a && b ≡ true → a ≡ true
-and-left true b e = refl
-and-left false b e = e
-
-pub and-right : (a b : Bool) → a && b ≡ true → b ≡ true
-and-right true b e = e
-and-right false b e = let z : false ≡ true = e in let w : b ≡ true = cc in w
 
 -- ---- ascending lists
 -- the spans from k on, of n in all, taken one off
@@ -62,12 +54,12 @@ unfolding ascends
 ascends-turned b p ps h l = simp (le-leb b (p .first) h, lt-leb (p .first) (p .last) l)
 
 -- a list that ascends from b, by its members, which have the numbers from k to k + n
-record Apart (f : ℕ → Span) (b k n : ℕ) : Type 0 where
+pub record Apart (f : ℕ → Span) (b k n : ℕ) : Type 0 where
   pub low : (j : ℕ) → k ≤ j → j < k + n → b ≤ f j .first
   pub fair : (j : ℕ) → k ≤ j → j < k + n → f j .first ≤ f j .last
   pub apart : (i j : ℕ) → k ≤ i → i < j → j < k + n → f i .last < f j .first
 
-ascends-apart : (f : ℕ → Span) (n b k : ℕ) → ascends b (spansFrom f k n) ≡ true → Apart f b k n
+pub ascends-apart : (f : ℕ → Span) (n b k : ℕ) → ascends b (spansFrom f k n) ≡ true → Apart f b k n
 unfolding ascends spansFrom
 ascends-apart f zero b k e = record {
   low = λ j h l. absurd (omega arith);
@@ -159,10 +151,9 @@ at-start f n g = record {
 }
 
 -- a look at one span in between leaves those above it, or those below
-module _ (f : ℕ → Span) (n g lo hi : ℕ) (up : ascends 0 (spansFrom f 0 n) ≡ true) (b : Between f n g lo hi) (m : ℕ) where
+module _ (f : ℕ → Span) (n g lo hi : ℕ) (a : Apart f 0 0 n) (b : Between f n g lo hi) (m : ℕ) where
   pub go-up : lo ≤ m → m < hi → f m .last < g → Between f n g (m + 1) hi
   go-up h l e =
-      let a = ascends-apart f n 0 0 up in
       let hn = b .hi-le in
       record {
         lo-le = omega arith;
@@ -175,7 +166,6 @@ module _ (f : ℕ → Span) (n g lo hi : ℕ) (up : ascends 0 (spansFrom f 0 n) 
 
   pub go-down : lo ≤ m → m < hi → g < f m .first → Between f n g lo m
   go-down h l e =
-      let a = ascends-apart f n 0 0 up in
       let hn = b .hi-le in
       record {
         lo-le = h;

@@ -10,31 +10,26 @@ use native.Mathlib.Omega.{arith}
 use borrow.Author.Tests.{eq-eqb, ne-eqb, lt-ltb, le-ltb}
 use lib.Count.{trailingZeros, trailing-of-zero, under}
 use lib.Dec.{eqb}
-use lib.IntN.{ℤ, pos, negsuc, natAbs}
+use lib.IntN.{ℤ, natAbs}
 use lib.ListN.{length, set}
 use lib.Pow.{shr-shr}
-use lib.Seq.{set-getD}
 use Rattle.ints.specs.Scale.{scaled}
-use Rattle.ints.specs.Signed.{pattern, signed, val}
-use Rattle.ints.proofs.SignedLaws.{pattern-signed}
-use Rattle.slots.specs.Slot.{Slot, noSlot}
+use Rattle.ints.specs.Signed.{signed, val}
+use Rattle.ints.proofs.SignedLaws.{signed-same}
+use Rattle.ints.proofs.SizeLaws.{abs-zero}
+use Rattle.slots.specs.Slot.{Slot}
 use Rattle.slots.specs.Line.{slot, update}
 use Rattle.slots.specs.Fields.{measure, withMeasure}
 use Rattle.slots.specs.declared.axis.Axis.{Axis}
 use Rattle.slots.specs.declared.axis.Direction.{Direction}
 use Rattle.slots.specs.declared.fields.Measure.{Measure}
-use Rattle.slots.proofs.LineLaws.{update-both}
+use Rattle.slots.proofs.LineLaws.{update-both, update-none}
 use Rattle.values.specs.Codes.{touchBy}
 use Rattle.values.specs.Format.{bitOf, fieldValue, recordLength, setBelow}
 use Rattle.values.specs.Touch.{applies, skipped, touched, touches}
 use Rattle.values.specs.Value.{fieldWorks, fieldsWork, valued, withField, withFields, worked}
 
 -- ---- one slot of a line
--- a change that leaves the slot leaves the line
-update-none : (i : ℕ) (ss : List Slot) → update i (λ s. s) ss ≡ ss
-unfolding update
-update-none i ss = set-getD ss i noSlot
-
 -- a measure set to op of what it was and z: old and new are the measure before and after
 pub put-measure : (op : ℤ → ℤ → ℤ) (m : Measure) (a : Axis) (i : ℕ) (z old new : ℤ) (ss next : List Slot) → old ≡ measure m a (slot ss i) → new ≡ op old z →
     next ≡ update i (withMeasure m a new) ss → next ≡ update i (λ s. withMeasure m a (op (measure m a s) z) s) ss
@@ -46,18 +41,13 @@ pub by-code : (k t i : ℕ) (z : ℤ) (ss next : List Slot) → t ≡ k → next
 by-code k t i z ss next e h = rw e h
 
 -- ---- one field
--- 0 alone is of size 0
-abs-zero : (z : ℤ) → natAbs z ≡ 0 → z ≡ pos 0
-abs-zero (pos n) e = ap pos e
-abs-zero (negsuc n) e = absurd (omega arith)
-
 -- the bits are 0 where the integer is
 zero-bits : (v : ℕ) → v < 4294967296 → eqb v 0 ≡ eqb (natAbs (val v)) 0
-unfolding pattern signed
+unfolding signed
 zero-bits v h = go (decLt 0 v)
   where
     nonzero : 0 < v → natAbs (val v) ≡ 0 → ⊥
-    nonzero l e = let z : v ≡ 0 = sym (pattern-signed 4 v h) ∙ ap (pattern 4) (abs-zero (val v) e) in omega arith
+    nonzero l e = let z : v ≡ 0 = signed-same 4 v 0 h (omega arith) (abs-zero (val v) e) in omega arith
 
     go : Dec (0 < v) → eqb v 0 ≡ eqb (natAbs (val v)) 0
     go (yes l) = ne-eqb v 0 (λ e. omega arith) ∙ sym (ne-eqb (natAbs (val v)) 0 (nonzero l))

@@ -4,13 +4,13 @@ use native.Mathlib.Omega.{arith}
 use Prim.Native.Nat.{ℕ}
 use denote.Ref.{now}
 use Rattle.tables.specs.Coverage.{coverageAt}
-use Rattle.cursive.proofs.CursivePosLaws.{coverage-at, good}
+use Rattle.cursive.proofs.CursivePosLaws.{coverage-at, header}
 use borrow.Author.Needs.{needs}
 use Rattle.cursive.proofs.subtable.index_of.Statement.{statement}
 use Rattle.cursive.proofs.subtable.index_of.Tie as tie
 
 read-u16-requires : tie.Need-read-u16-requires
-read-u16-requires c κs = let s = c .before in omega (arith, good (now (s .args .t)) (s .pre .1) .header)
+read-u16-requires c κs = let s = c .before in omega (arith, header (now (s .args .t)) (s .pre .1))
 
 cast-index-at : tie.Need-cast-index-at
 cast-index-at c = search needs

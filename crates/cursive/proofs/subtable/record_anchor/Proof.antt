@@ -6,13 +6,13 @@ use borrow.Author.Tests.{le-ltb}
 use denote.Ref.{now}
 use Rattle.tables.specs.Anchor.{anchorOf}
 use Rattle.tables.specs.Part.{childOf}
-use Rattle.cursive.proofs.CursivePosLaws.{good}
+use Rattle.cursive.proofs.CursivePosLaws.{header}
 use borrow.Author.Needs.{needs}
 use Rattle.cursive.proofs.subtable.record_anchor.Statement.{statement}
 use Rattle.cursive.proofs.subtable.record_anchor.Tie as tie
 
 read-u16-requires : tie.Need-read-u16-requires
-read-u16-requires c κs = let s = c .before in omega (arith, good (now (s .args .t)) (s .pre .0) .header)
+read-u16-requires c κs = let s = c .before in omega (arith, header (now (s .args .t)) (s .pre .0))
 
 cast-n : tie.Need-cast-n
 cast-n c = search needs

@@ -3,7 +3,7 @@ use native.Mathlib.Nat.{pos-of-ne-zero}
 use native.Mathlib.Omega.{arith}
 use borrow.Author.Needs.{needs}
 use Rattle.ints.specs.Signed.{signed}
-use Rattle.slots.specs.Line.{slots}
+use Rattle.slots.specs.Line.{count, slots}
 use Rattle.finish.proofs.SettleLaws.{parent-counted, settles-at, settles-none, settles-outside, settles-stop, settles-unattached}
 use Prim.Native.Nat.{ℕ, _-_, _<_}
 use borrow.Fn.Kinds.{In}
@@ -18,18 +18,28 @@ use Rattle.slots.proofs.parent.parent_of.Reads as parent-of-reads
 use Rattle.finish.proofs.propagate.+settle.{statement}
 use Rattle.finish.proofs.propagate.+settle.Tie.{close}
 
+-- the measure: the limit
 abbrev μ-settle : Measures 1 settle-kinds.ps ℕ
 μ-settle κs a = a .1 .1 .1 .0
 
+-- what a call may assume, and what it owes to the call inside it: a smaller measure
 abbrev settle-at : ℕ → In 1 settle-kinds.ps
 settle-at t = and 1 settle-kinds.ps (is 1 settle-kinds.ps μ-settle t) settle.Pre
 
 abbrev settle-below : ℕ → In 1 settle-kinds.ps
 settle-below t = and 1 settle-kinds.ps (falls 1 settle-kinds.ps _<_ μ-settle t) settle.Pre
 
+-- what the callees ask and tell
 abbrev calls : ℕ → settle-lts.Claims
 calls t =
     (parent-of-reads.Asked, parent-of-reads.Learnt, set-chain-reads.Asked, set-chain-reads.Learnt, chain-reads.Asked, chain-reads.Learnt, join-reads.Asked, join-reads.Learnt, settle-below t, settle.Post)
+
+-- a parent that was found in the line is one of its slots
+inside : (t : ℕ) (arm : settle-lts.After-p (calls t) (settle-at t) settle.Post) → arm .p .given .0 .0 < count (arm .before .before .before .before .before .args .line .now)
+inside t arm =
+    let found = arm .before .before in
+    let a = found .before .before .before .args in
+    parent-counted (a .line .now) (a .i) (arm .p .given .0 .0) (found .parent-of .ensures) (arm .p .given .1)
 
 settle-parent-of-requires : (t : ℕ) → settle-lts.Need-parent-of-requires (calls t) (settle-at t) settle.Post
 settle-parent-of-requires t c κs = search needs
@@ -63,18 +73,12 @@ settle-returns t c =
 
 settle-chain-requires : (t : ℕ) → settle-lts.Need-chain-requires (calls t) (settle-at t) settle.Post
 settle-chain-requires t c κs =
-    let arm = c .before .before .before .before .before .before .before in
-    let found = arm .before .before in
-    let a = found .before .before .before .args in
-    let inside = parent-counted (a .line .now) (a .i) (arm .p .given .0 .0) (found .parent-of .ensures) (arm .p .given .1) in
+    let in-line = inside t (c .before .before .before .before .before .before .before) in
     omega arith
 
 settle-join-requires : (t : ℕ) → settle-lts.Need-join-requires (calls t) (settle-at t) settle.Post
 settle-join-requires t c κs =
-    let arm = c .before .before .before .before .before .before .before .before .before .before in
-    let found = arm .before .before in
-    let a = found .before .before .before .args in
-    let inside = parent-counted (a .line .now) (a .i) (arm .p .given .0 .0) (found .parent-of .ensures) (arm .p .given .1) in
+    let in-line = inside t (c .before .before .before .before .before .before .before .before .before .before) in
     (search needs, omega arith)
 
 settle-same-length-2 : (t : ℕ) → settle-lts.Need-same-length-2 (calls t) (settle-at t) settle.Post
@@ -98,18 +102,13 @@ settle-sub-settle t c = search needs
 settle-settle-requires : (t : ℕ) → settle-lts.Need-settle-requires (calls t) (settle-at t) settle.Post
 settle-settle-requires t c κs =
     let arm = c .before .before .before .before .before .before .before .before .before .before in
-    let found = arm .before .before in
-    let a = found .before .before .before .args in
     let more = pos-of-ne-zero (c .before .before .before .before .if1 .left) in
-    let inside = parent-counted (a .line .now) (a .i) (arm .p .given .0 .0) (found .parent-of .ensures) (arm .p .given .1) in
-    (omega (arith, found .before .before .before .pre .0), omega arith)
+    let in-line = inside t arm in
+    (omega (arith, arm .before .before .before .before .before .pre .0), omega arith)
 
 settle-join-requires-2 : (t : ℕ) → settle-lts.Need-join-requires-2 (calls t) (settle-at t) settle.Post
 settle-join-requires-2 t c κs =
-    let arm = c .before .before .before .before .before .before .before .before .before .before .before .before .before .before in
-    let found = arm .before .before in
-    let a = found .before .before .before .args in
-    let inside = parent-counted (a .line .now) (a .i) (arm .p .given .0 .0) (found .parent-of .ensures) (arm .p .given .1) in
+    let in-line = inside t (c .before .before .before .before .before .before .before .before .before .before .before .before .before .before) in
     (search needs, omega arith)
 
 settle-same-length-3 : (t : ℕ) → settle-lts.Need-same-length-3 (calls t) (settle-at t) settle.Post

@@ -1,14 +1,25 @@
 -- By the direction and by which of the two slots is before the other, the part between and the flag are those of the definition. Assumes nothing.
-use mathlib.Core.Bool.{true, false}
-use mathlib.Core.Path.{sym, _∙_}
+use mathlib.Core.Bool.{Bool, true, false}
+use mathlib.Core.List.{List}
+use mathlib.Core.Path.{_≡_, sym, _∙_}
 use native.Mathlib.Omega.{arith}
-use borrow.Author.Tests.{le-ltb, lt-ltb}
+use lib.IntN.{ℤ}
 use Rattle.ints.specs.Signed.{val}
+use Rattle.slots.specs.Slot.{Slot}
 use Rattle.slots.specs.Line.{slots}
-use Rattle.finish.proofs.WalkLaws.{walked-backward, walked-forward}
+use Rattle.finish.specs.Finish.{subtracts}
+use Rattle.finish.proofs.WalkLaws.{Side, Stepped, Walked, walkPart, walked-part}
 use borrow.Author.Needs.{needs}
 use Rattle.finish.proofs.walk.walk.Statement.{statement}
 use Rattle.finish.proofs.walk.walk.Tie as tie
+
+-- the walk, once code knows whether the direction is forward, f, and whether the parent is before the slot, b: m is the part that it then takes
+walks : {m : List Slot} {x y : ℤ} (c : tie.After-is-forward) (f b : Bool) → c .is-forward .result ≡ f → (let a = c .before .before .args in
+    Side b (a .i) (a .j) → m ≡ walkPart f b (slots (a .line .now)) (a .i) (a .j)
+    → Stepped (subtracts b f) m (val (a .from .x)) (val (a .from .y)) x y → Walked (a .d) (slots (a .line .now)) (a .i) (a .j) (val (a .from .x)) (val (a .from .y)) x y)
+walks c f b known side is to =
+    let a = c .before .before .args in
+    walked-part (a .d) (slots (a .line .now)) (a .i) (a .j) f b (val (a .from .x)) (val (a .from .y)) (sym (c .is-forward .ensures) ∙ known) side is to
 
 is-forward-requires : tie.Need-is-forward-requires
 is-forward-requires c κs = search needs
@@ -24,11 +35,8 @@ step-all-requires c κs = search needs
 
 returns : tie.Need-returns
 returns c =
-    let tested = c .before .before in
-    let e = tested .before .before in
-    let a = e .before .before .args in
-    walked-forward (a .d) (slots (a .line .now)) (slots (c .before .slots-between .result .now)) (a .i) (a .j) (a .j) (a .i) true (val (a .from .x)) (val (a .from .y))
-    (omega arith) (omega arith) (lt-ltb (a .j) (a .i) (tested .if2 .taken)) (sym (e .is-forward .ensures) ∙ tested .before .if1 .taken) (c .before .slots-between .ensures .0) (c .step-all .ensures)
+    let side = c .before .before in
+    walks (side .before .before) true true (side .before .if1 .taken) (side .if2 .taken) (c .before .slots-between .ensures .0) (c .step-all .ensures)
 
 slots-between-requires-2 : tie.Need-slots-between-requires-2
 slots-between-requires-2 c κs = search needs
@@ -38,11 +46,8 @@ step-all-requires-2 c κs = search needs
 
 returns-2 : tie.Need-returns-2
 returns-2 c =
-    let tested = c .before .before in
-    let e = tested .before .before in
-    let a = e .before .before .args in
-    walked-forward (a .d) (slots (a .line .now)) (slots (c .before .slots-between2 .result .now)) (a .i) (a .j) (a .i) (a .j) false (val (a .from .x)) (val (a .from .y))
-    (omega arith) (omega arith) (le-ltb (a .j) (a .i) (tested .if2 .left)) (sym (e .is-forward .ensures) ∙ tested .before .if1 .taken) (c .before .slots-between2 .ensures .0) (c .step-all2 .ensures)
+    let side = c .before .before in
+    walks (side .before .before) true false (side .before .if1 .taken) (side .if2 .left) (c .before .slots-between2 .ensures .0) (c .step-all2 .ensures)
 
 add-slots-between : tie.Need-add-slots-between
 add-slots-between c = search needs
@@ -61,11 +66,8 @@ step-all-requires-3 c κs = omega arith
 
 returns-3 : tie.Need-returns-3
 returns-3 c =
-    let tested = c .before .before in
-    let e = tested .before .before in
-    let a = e .before .before .args in
-    walked-backward (a .d) (slots (a .line .now)) (slots (c .before .slots-between3 .result .now)) (a .i) (a .j) (a .j) (a .i) true (val (a .from .x)) (val (a .from .y))
-    (omega arith) (omega arith) (lt-ltb (a .j) (a .i) (tested .if3 .taken)) (sym (e .is-forward .ensures) ∙ tested .before .if1 .left) (c .before .slots-between3 .ensures .0) (c .step-all3 .ensures)
+    let side = c .before .before in
+    walks (side .before .before) false true (side .before .if1 .left) (side .if3 .taken) (c .before .slots-between3 .ensures .0) (c .step-all3 .ensures)
 
 add-slots-between-3 : tie.Need-add-slots-between-3
 add-slots-between-3 c = search needs
@@ -81,11 +83,8 @@ step-all-requires-4 c κs = omega arith
 
 returns-4 : tie.Need-returns-4
 returns-4 c =
-    let tested = c .before .before in
-    let e = tested .before .before in
-    let a = e .before .before .args in
-    walked-backward (a .d) (slots (a .line .now)) (slots (c .before .slots-between4 .result .now)) (a .i) (a .j) (a .i) (a .j) false (val (a .from .x)) (val (a .from .y))
-    (omega arith) (omega arith) (le-ltb (a .j) (a .i) (tested .if3 .left)) (sym (e .is-forward .ensures) ∙ tested .before .if1 .left) (c .before .slots-between4 .ensures .0) (c .step-all4 .ensures)
+    let side = c .before .before in
+    walks (side .before .before) false false (side .before .if1 .left) (side .if3 .left) (c .before .slots-between4 .ensures .0) (c .step-all4 .ensures)
 
 pub walk-spec : {M : Type 1} → statement M
 walk-spec =

@@ -1,44 +1,39 @@
 -- A refusal is that of the first test that holds; else the core's effect decides the line. Assumes nothing.
-use mathlib.Core.Path.{_≡_, sym, ap, ap₂, _∙_, subst}
-use mathlib.Core.Bool.{Bool, not}
+use mathlib.Core.Path.{_≡_, sym, ap, _∙_}
+use mathlib.Core.Bool.{not}
 use Prim.Native.Nat.{ℕ}
-use lib.Dec.{leb}
 use borrow.Author.Tests.{leb-false, not-false}
+use lib.Dec.{leb}
 use Rattle.slots.specs.Axis.{cross}
 use Rattle.slots.specs.Line.{count, slots}
-use Rattle.slots.specs.declared.axis.Direction.{Direction}
 use Rattle.marks.specs.Attachment.{planned}
 use Rattle.marks.specs.MarkPos.{marksGood}
 use Rattle.marks.specs.Plan.{planOf, planSaid}
 use Rattle.answers.specs.Said.{done, said, saidDone, unless}
-use Rattle.answers.specs.Outcome.{Effect}
-use Rattle.gpos.specs.Marks.{markPlan, markSlots}
-use Rattle.gpos.specs.Tests.{applyingTests}
-use Rattle.gpos.proofs.ApplyingLaws.{Allowed, allowed, by-core, refused-by}
+use Rattle.gpos.proofs.ApplyingLaws.{Call, by-core, callOf, checked, passed, refused-by, tests}
 use borrow.Author.Needs.{needs}
 use Rattle.gpos.proofs.mark_pos.mark.Statement.{statement}
 use Rattle.gpos.proofs.mark_pos.mark.Tie as tie
 
+-- the call
+abbrev call : tie.Start → Call
+call c =
+    let a = c .args in
+    let l = a .line .now in
+    let t = a .subtable .now in
+    callOf l (a .direction) (a .s) (a .u) (leb (count l) (a .index)) (not (marksGood t))
+    (λ d. planSaid (a .index) (planOf (a .kind) (cross d) t (slots l) (a .index)))
+    (λ d. planned (a .s) (a .u) d (a .index) (planOf (a .kind) (cross d) t (slots l) (a .index)) (slots l))
+
 abbrev start : tie.After-check-call → tie.Start
-start c = c .before .before .before .before .before .before .before
+start k = k .before .before .before .before .before .before .before
 
--- the tests of the index and of the subtable, as the definition has them
-abbrev misplaced : tie.Start → Bool
-misplaced s = leb (count (s .args .line .now)) (s .args .index)
-
-abbrev damaged : tie.Start → Bool
-damaged s = not (marksGood (s .args .subtable .now))
-
--- what the checks said
-tested : (c : tie.After-check-call)
-    → let a = start c .args in
-    saidDone (c .check-call .result) ≡ unless (applyingTests (a .line .now) (a .direction) (a .s) (a .u) (misplaced (start c)) (damaged (start c))) done
-tested c =
-    let a = start c .args in
-    let good = c .before .before in
-    c .check-call .ensures
-    ∙ ap₂ (λ (x y : Bool). unless (applyingTests (a .line .now) (a .direction) (a .s) (a .u) x y) done)
-    (ap (λ (n : ℕ). leb n (a .index)) (good .before .slot-count .ensures)) (ap not (good .is-good .ensures))
+-- what its checks said
+tested : (k : tie.After-check-call) → saidDone (k .check-call .result) ≡ unless (tests (call (start k))) done
+tested k =
+    let a = start k .args in
+    let g = k .before .before in
+    checked (call (start k)) (k .check-call .ensures) (ap (λ (n : ℕ). leb n (a .index)) (g .before .slot-count .ensures)) (ap not (g .is-good .ensures))
 
 slot-count-requires : tie.Need-slot-count-requires
 slot-count-requires c κs = search needs
@@ -55,23 +50,19 @@ enum-known-checked c = search needs
 enum-told : tie.Need-enum-told
 enum-told c = search needs
 
--- where they don't refuse
-passed : (c : tie.After-enum-told)
-    → let s = start (c .before .before) in
-    let a = s .args in
-    unless (applyingTests (a .line .now) (a .direction) (a .s) (a .u) (misplaced s) (damaged s)) done ≡ done
-passed c = sym (tested (c .before .before)) ∙ ap saidDone (c .enum-told .given .1)
+-- none refuses
+ok : (c : tie.After-enum-told) → unless (tests (call (start (c .before .before)))) done ≡ done
+ok c = sym (tested (c .before .before)) ∙ ap saidDone (c .enum-told .given .1)
 
 direction-of-requires : tie.Need-direction-of-requires
 direction-of-requires c κs = search needs
 
 attach-requires : tie.Need-attach-requires
 attach-requires c κs =
-    let told = c .before .before in
-    let s = start (told .before .before) in
+    let s = start (c .before .before .before .before) in
     let a = s .args in
-    let ok = allowed (a .line .now) (a .direction) (a .s) (a .u) (misplaced s) (damaged s) (passed told) in
-    (leb-false (count (a .line .now)) (a .index) (ok .index), ok .scale, not-false _ (ok .subtable))
+    let p = passed (call s) (ok (c .before .before)) in
+    (leb-false (count (a .line .now)) (a .index) (p .index), p .scale, not-false _ (p .subtable))
 
 same-length : tie.Need-same-length
 same-length c = search needs
@@ -79,29 +70,18 @@ same-length c = search needs
 returns : tie.Need-returns
 returns c =
     let k = c .before .before .before in
-    let s = start k in
-    let a = s .args in
-    let l = a .line .now in
-    let t = a .subtable .now in
-    refused-by l (a .direction) (a .s) (a .u) (misplaced s) (damaged s) (planSaid (a .index) (markPlan (a .kind) l t (a .direction) (a .index))) (markSlots (a .kind) l t (a .direction) (a .s) (a .u) (a .index)) _
-    (sym (tested k) ∙ ap saidDone (c .before .checked .given .1))
+    refused-by (call (start k)) _ (sym (tested k) ∙ ap saidDone (c .before .checked .given .1))
 
 same-length-2 : tie.Need-same-length-2
 same-length-2 c = search needs
 
 returns-2 : tie.Need-returns-2
 returns-2 c =
-    let call = c .before .before .attach in
+    let core = c .before .before .attach in
     let told = c .before .before .before .before .before in
-    let s = start (told .before .before) in
-    let a = s .args in
-    let l = a .line .now in
-    let t = a .subtable .now in
-    by-core l (a .direction) (a .s) (a .u) (misplaced s) (damaged s) (planSaid (a .index) (markPlan (a .kind) l t (a .direction) (a .index))) (markSlots (a .kind) l t (a .direction) (a .s) (a .u) (a .index))
-    (passed told) (call .last .0) (said (call .result)) (λ k. told .before .before .before .before .before .before .before .before .slice-known .given k .fits)
-    (λ k. c .slice-known2 .given k .fits) (call .kept .0)
-    (subst (λ (d : Direction). Effect (slots l) (planSaid (a .index) (planOf (a .kind) (cross d) t (slots l) (a .index))) (planned (a .s) (a .u) d (a .index) (planOf (a .kind) (cross d) t (slots l) (a .index)) (slots l)) (said (call .result)) (slots (call .last .0)))
-    (c .before .before .before .direction-of .ensures) (call .ensures))
+    let k = told .before .before in
+    by-core (call (start k)) (ok told) (core .last .0) (said (core .result)) (c .before .before .before .direction-of .ensures)
+    (λ n. k .before .before .before .before .before .before .slice-known .given n .fits) (λ n. c .slice-known2 .given n .fits) (core .kept .0) (core .ensures)
 
 pub mark-spec : {M : Type 1} → statement M
 mark-spec =

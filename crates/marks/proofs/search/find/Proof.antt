@@ -1,11 +1,12 @@
 -- `marks::search::find` meets its contract. The loop's invariant: what is asked of idx is asked of j. The measure is j. Assumes nothing.
+use mathlib.Core.Bool.{true, false}
 use mathlib.Core.Path.{_≡_, refl, sym, _∙_}
 use Prim.Native.Nat.{_≤_}
 use native.Mathlib.Omega.{arith}
 use denote.Ref.{now}
 use Rattle.slots.specs.Line.{slots}
 use Rattle.marks.specs.Search.{foundFor, nearest, stopsAt}
-use Rattle.marks.proofs.SearchLaws.{nearest-here, nearest-next, nearest-none}
+use Rattle.marks.proofs.SearchLaws.{nearest-none, nearest-turn}
 use borrow.Author.Needs.{needs}
 use Rattle.marks.proofs.search.find.Statement.{statement}
 use Rattle.marks.proofs.search.find.Tie as tie
@@ -29,7 +30,7 @@ returns : tie.Need-returns Inv-loop μ-loop
 returns c =
     let s = c .before .before .before in
     let a = s .before .before .before .args in (
-      sym (s .loop .inv .1 ∙ nearest-here (stopsAt (a .kind) (now (a .t)) (slots (now (a .line)))) (s .loop .j) (omega arith) (sym (c .before .stops-at .ensures) ∙ c .if1 .taken)),
+      sym (s .loop .inv .1 ∙ nearest-turn (stopsAt (a .kind) (now (a .t)) (slots (now (a .line)))) (s .loop .j) (omega arith) true (sym (c .before .stops-at .ensures) ∙ c .if1 .taken)),
       omega arith,
     )
 
@@ -41,7 +42,7 @@ loop-again c =
     let s = c .before .before .before in
     let a = s .before .before .before .args in (
       omega arith,
-      s .loop .inv .1 ∙ nearest-next (stopsAt (a .kind) (now (a .t)) (slots (now (a .line)))) (s .loop .j) (omega arith) (sym (c .before .stops-at .ensures) ∙ c .if1 .left),
+      s .loop .inv .1 ∙ nearest-turn (stopsAt (a .kind) (now (a .t)) (slots (now (a .line)))) (s .loop .j) (omega arith) false (sym (c .before .stops-at .ensures) ∙ c .if1 .left),
     )
 
 returns-2 : tie.Need-returns-2 Inv-loop μ-loop

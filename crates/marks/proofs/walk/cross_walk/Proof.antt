@@ -1,15 +1,20 @@
 -- `marks::walk::cross_walk` meets its contract. The loop's invariant: the whole answer is that of the tests that are left, from where the walk stands.
 -- The measure is how many are left. Assumes nothing.
 use mathlib.Core.Path.{_≡_, sym, ap, _∙_}
+use mathlib.Core.Option.{some}
 use Prim.Native.Nat.{_-_, _<_}
 use native.Mathlib.Omega.{arith}
 use denote.Ref.{now}
 use Rattle.ints.specs.Saturating.{plus}
 use Rattle.ints.specs.Signed.{val}
-use Rattle.slots.specs.Line.{count, slots}
+use Rattle.slots.specs.Line.{count, slot, slots}
+use Rattle.slots.specs.Fields.{offset}
+use Rattle.slots.specs.Parent.{byParent}
+use Rattle.slots.specs.declared.parent.Parent.{Parent}
+use Rattle.slots.specs.declared.parent.Parent.the-variants.{None, Outside, At}
 use Rattle.slots.proofs.LineLaws.{length-slots}
 use Rattle.marks.specs.Walk.{crossWalk, walkIn}
-use Rattle.marks.proofs.WalkLaws.{climb-in, walk-none, walk-on, walk-out, walk-outside, walk-start}
+use Rattle.marks.proofs.WalkLaws.{climb-in, walk-out, walk-start, walk-turn}
 use borrow.Author.Needs.{needs}
 use Rattle.marks.proofs.walk.cross_walk.Statement.{statement}
 use Rattle.marks.proofs.walk.cross_walk.Tie as tie
@@ -19,6 +24,16 @@ Inv-loop line a i left₀ at₀ sum₀ left at sum = (at < count line) × (cross
 
 abbrev μ-loop : tie.MeasureT-loop
 μ-loop line a i left₀ at₀ sum₀ left at sum = left
+
+-- the whole answer, once code knows the parent that the walk climbs to: p
+turn : (f : tie.After-climb-from Inv-loop μ-loop) (p : Parent) → f .climb-from .result ≡ p → (let s = f .before .before in let a = s .before .before .before .before .args in
+    crossWalk (a .a) (slots (now (a .line))) (a .i) ≡ byParent p (some (val (s .loop .sum))) (some (val (s .loop .sum)))
+    (λ j. walkIn (s .loop .left - 1) (a .a) (slots (now (a .line))) j (plus (val (s .loop .sum)) (offset (a .a) (slot (slots (now (a .line))) j)))))
+turn f p e =
+    let s = f .before .before in
+    let a = s .before .before .before .before .args in
+    s .loop .inv .1
+    ∙ walk-turn (a .a) (slots (now (a .line))) (s .loop .left) (s .loop .at) (val (s .loop .sum)) (omega arith) p (sym (f .climb-from .ensures) ∙ e)
 
 slot-count-requires : tie.Need-slot-count-requires Inv-loop μ-loop
 slot-count-requires c κs = search needs
@@ -41,23 +56,13 @@ enum-told : tie.Need-enum-told Inv-loop μ-loop
 enum-told c = search needs
 
 returns : tie.Need-returns Inv-loop μ-loop
-returns c =
-    let f = c .before .before in
-    let s = f .before .before in
-    let a = s .before .before .before .before .args in
-    sym (s .loop .inv .1
-    ∙ walk-none (a .a) (slots (now (a .line))) (s .loop .left) (s .loop .at) (val (s .loop .sum)) (omega arith) (sym (f .climb-from .ensures) ∙ c .enum-told .given .1))
+returns c = sym (turn (c .before .before) None (c .enum-told .given .1))
 
 enum-told-2 : tie.Need-enum-told-2 Inv-loop μ-loop
 enum-told-2 c = search needs
 
 returns-2 : tie.Need-returns-2 Inv-loop μ-loop
-returns-2 c =
-    let f = c .before .before in
-    let s = f .before .before in
-    let a = s .before .before .before .before .args in
-    sym (s .loop .inv .1
-    ∙ walk-outside (a .a) (slots (now (a .line))) (s .loop .left) (s .loop .at) (val (s .loop .sum)) (omega arith) (sym (f .climb-from .ensures) ∙ c .enum-told2 .given .1))
+returns-2 c = sym (turn (c .before .before) Outside (c .enum-told2 .given .1))
 
 enum-known-j : tie.Need-enum-known-j Inv-loop μ-loop
 enum-known-j c = search needs
@@ -86,11 +91,9 @@ loop-again c =
     let s = f .before .before in
     let a = s .before .before .before .before .args in
     let l = now (a .line) in
-    let to = j .j .given .0 .0 in
-    let e = sym (f .climb-from .ensures) ∙ j .j .given .1 in (
-      omega (arith, climb-in (slots l) (s .loop .at) to e, length-slots l),
-      s .loop .inv .1
-          ∙ walk-on (a .a) (slots l) (s .loop .left) (s .loop .at) (val (s .loop .sum)) (omega arith) to e
+    let to = j .j .given .0 .0 in (
+      omega (arith, climb-in (slots l) (s .loop .at) to (sym (f .climb-from .ensures) ∙ j .j .given .1), length-slots l),
+      turn f (At to) (j .j .given .1)
           ∙ ap (walkIn (s .loop .left - 1) (a .a) (slots l) to) (sym (c .sat-add .ensures ∙ ap (plus (val (s .loop .sum))) (c .before .get2 .ensures))),
     )
 

@@ -1,13 +1,15 @@
 -- `pair::decision::from_classes` meets its contract: a class outside its count and a record that is cut miss, else the record is where the definition has it. Assumes
 -- nothing.
 use mathlib.Core.Path.{ap, _∙_}
-use Prim.Native.Nat.{_*_, _+_, _≤_}
+use Prim.Native.Nat.{_*_, _+_, _≤_, _<_}
+use native.Mathlib.Nat.{mul-le-mul}
 use native.Mathlib.Omega.{arith}
 use borrow.Author.Needs.{needs}
 use denote.Ref.{now}
+use Rattle.tables.proofs.AnchorRowsLaws.{places-few}
 use Rattle.pair.specs.Plan.{stop}
 use Rattle.pair.proofs.PairPosLaws.{good}
-use Rattle.pair.proofs.PlanLaws.{classes-small, first-outside, place-small, record-cut, record-there, second-outside}
+use Rattle.pair.proofs.PlanLaws.{first-outside, record-cut, record-there, second-outside}
 use Rattle.pair.proofs.decision.from_classes.Statement.{statement}
 use Rattle.pair.proofs.decision.from_classes.Tie as tie
 
@@ -62,15 +64,15 @@ cast-at : tie.Need-cast-at
 cast-at c = search needs
 
 -- how far the record of two classes is from the first
-many : (c : tie.After-pair-length) → c .before .before .before .before .before .before .args .c1 * c .before .before .before .before .read-u16 .result ≤ 4294967296
-many c = classes-small (c .before .before .before .before .before .before .args .c1) (c .before .before .before .before .read-u16 .result) (omega arith) (omega arith)
+many : (c : tie.After-pair-length) → c .before .before .before .before .before .before .args .c1 * c .before .before .before .before .read-u16 .result < 4294967296
+many c = places-few (c .before .before .before .before .before .before .args .c1) (c .before .before .before .before .read-u16 .result) (omega arith) (omega arith)
 
 near : (c : tie.After-pair-length)
     → c .pair-length .result
     * (c .before .before .before .before .before .before .args .c1 * c .before .before .before .before .read-u16 .result
     + c .before .before .before .before .before .before .args .c2)
     ≤ 137441050624
-near c = place-small (c .pair-length .result) _ (c .pair-length .ensures .1) (omega (arith, many c))
+near c = mul-le-mul {n₂ = 32} {m₂ = 4295032832} (c .pair-length .ensures .1) (omega (arith, many c))
 
 mul-at : tie.Need-mul-at
 mul-at c = omega (arith, many c)

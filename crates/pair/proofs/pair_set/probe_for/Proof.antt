@@ -2,11 +2,12 @@
 -- many as 16 bits count. Assumes nothing.
 use mathlib.Core.Path.{sym, ap}
 use Prim.Native.Nat.{ℕ, _-_, _*_, _≤_}
+use native.Mathlib.Nat.{mul-le-mul}
 use native.Mathlib.Omega.{arith}
 use denote.Ref.{now}
 use Rattle.ints.specs.BigEndian.{natAt}
 use Rattle.pair.specs.PairSet.{middle, probe, probeIn}
-use Rattle.pair.proofs.PairSetLaws.{Left, cut, down, hit, over, small, up}
+use Rattle.pair.proofs.PairSetLaws.{Left, cut, down, hit, over, up}
 use Rattle.pair.proofs.pair_set.probe_for.Statement.{statement}
 use Rattle.pair.proofs.pair_set.probe_for.Tie as tie
 
@@ -40,7 +41,7 @@ abbrev M : tie.In-loop Inv-loop μ-loop → ℕ
 M c = middle (c .before .loop .lo) (c .before .loop .hi)
 
 near : (c : tie.In-loop Inv-loop μ-loop) → c .before .before .before .before .args .size * M c ≤ 2228224
-near c = small (c .before .before .before .before .args .size) (M c) (omega arith) (omega arith)
+near c = mul-le-mul {n₂ = 34} {m₂ = 65536} (omega arith) (omega arith)
 
 add-mid : tie.Need-add-mid Inv-loop μ-loop
 add-mid c = omega arith

@@ -1,13 +1,13 @@
 -- The bits together are those of the slots from i up. Assumes nothing.
 use mathlib.Core.Bool.{_||_}
 use mathlib.Core.Path.{_≡_, sym, ap, ap₂, _∙_}
-use Prim.Native.Nat.{_+_, _-_, _*_, _≤_}
+use Prim.Native.Nat.{_-_, _≤_}
 use native.Mathlib.Omega.{arith}
 use borrow.Author.Needs.{needs}
 use lib.ListN.{drop}
 use Rattle.slots.specs.Line.{count, slots}
 use Rattle.slots.specs.Checks.{anyOutOfRange, outOfRange, some}
-use Rattle.slots.proofs.LineLaws.{length-part, length-slots, line-get}
+use Rattle.slots.proofs.LineLaws.{length-slots, lent-length, line-get}
 use Rattle.slots.proofs.RangeLaws.{or-out}
 use Rattle.slots.proofs.SearchLaws.{some-here, some-none}
 use Rattle.slots.proofs.checks.is_unranged.Statement.{statement}
@@ -43,10 +43,7 @@ part-small-fields-end : tie.Need-part-small-fields-end Inv-loop μ-loop
 part-small-fields-end c = omega arith
 
 small-fields-requires : tie.Need-small-fields-requires Inv-loop μ-loop
-small-fields-requires c κs =
-    let i = c .before .before .loop .i - 1 in
-    let e : i * 24 + 24 - i * 24 ≡ 24 = omega arith in
-    rw e (length-part (c .before .before .before .before .args .line .now) i (omega arith))
+small-fields-requires c κs = lent-length (c .before .before .before .before .args .line .now) (c .before .before .loop .i - 1) (omega arith)
 
 loop-less : tie.Need-loop-less Inv-loop μ-loop
 loop-less c = omega arith
@@ -56,7 +53,7 @@ loop-again c =
     let l = c .before .before .before .before .before .args .line .now in
     let at-loop = c .before .before .before .loop in
     let i = at-loop .i - 1 in
-    let here = c .small-fields .ensures ∙ ap outOfRange (line-get l i (i * 24 + 24 - i * 24) (omega arith) (omega arith)) in (
+    let here = c .small-fields .ensures ∙ ap outOfRange (line-get l i (omega arith)) in (
       omega arith,
       or-out (c .small-fields .result) (at-loop .all) ∙ ap₂ (λ a b. a || b) here (at-loop .inv .1)
           ∙ sym (some-here outOfRange (slots l) i (at-loop .i) (omega (arith, length-slots l)) (omega arith)),

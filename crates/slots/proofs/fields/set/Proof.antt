@@ -1,14 +1,12 @@
 -- A write of four bytes is a change of one measure. Assumes nothing.
-use Prim.Native.Nat.{ℕ, _+_, _-_, _*_}
+use Prim.Native.Nat.{ℕ}
 use native.Mathlib.Omega.{arith}
-use mathlib.Core.Path.{_≡_, ap, _∙_}
-use lib.ListN.{length}
-use borrow.Rule.Slice.PartMut.{midOf}
-use Rattle.slots.specs.Slot.{slotOf, slotSize}
+use mathlib.Core.Path.{ap, _∙_}
+use Rattle.slots.specs.Slot.{slotOf}
 use Rattle.ints.specs.Signed.{val, withInt}
 use Rattle.ints.proofs.SignedLaws.{signed-in}
 use Rattle.slots.specs.Fields.{withMeasure}
-use Rattle.slots.proofs.LineLaws.{length-part, line-update}
+use Rattle.slots.proofs.LineLaws.{lent, lent-length, line-update}
 use Rattle.slots.proofs.FieldLaws.{measure-put}
 use borrow.Author.Needs.{needs}
 use Rattle.slots.proofs.fields.set.Statement.{statement}
@@ -44,11 +42,9 @@ returns c =
     let call = c .before .before .write-i32 in
     let l = a .line .now in
     let i = a .i in
-    let k = i * 24 + 24 - i * 24 in
-    let e : k ≡ slotSize = omega arith in
-    let m = midOf (i * 24) k l in
-    let lm : length m ≡ slotSize = rw e (length-part l i (omega arith)) in
-    line-update (withMeasure (a .m) (a .a) (val (a .v))) l (call .last .0) i k (omega arith) e (call .kept .0) (ap slotOf (call .ensures ∙ ap (λ (n : ℕ). withInt 4 m n (val (a .v))) (c .before .before .before .before .measure-at .ensures .0)) ∙ measure-put (val (a .v)) (signed-in 4 (a .v) (omega arith) (omega arith)) (a .m) (a .a) m lm)
+    line-update l i (omega arith) (withMeasure (a .m) (a .a) (val (a .v))) (call .last .0) (call .kept .0)
+    (ap slotOf (call .ensures ∙ ap (λ (n : ℕ). withInt 4 (lent l i) n (val (a .v))) (c .before .before .before .before .measure-at .ensures .0))
+    ∙ measure-put (val (a .v)) (signed-in 4 (a .v) (omega arith) (omega arith)) (a .m) (a .a) (lent l i) (lent-length l i (omega arith)))
 
 pub set-spec : {M : Type 1} → statement M
 set-spec =

@@ -1,12 +1,7 @@
 -- A byte put into the lent slot is a change of one field. Assumes nothing.
-use Prim.Native.Nat.{_+_, _-_, _*_}
 use native.Mathlib.Omega.{arith}
-use mathlib.Core.Path.{_≡_}
-use lib.ListN.{length}
-use borrow.Rule.Slice.PartMut.{midOf}
-use Rattle.slots.specs.Slot.{slotSize}
 use Rattle.slots.specs.Fields.{withByte}
-use Rattle.slots.proofs.LineLaws.{length-part, line-update}
+use Rattle.slots.proofs.LineLaws.{line-update}
 use borrow.Author.Needs.{needs}
 use Rattle.slots.proofs.fields.set_byte.Statement.{statement}
 use Rattle.slots.proofs.fields.set_byte.Tie as tie
@@ -36,13 +31,7 @@ returns : tie.Need-returns
 returns c =
     let a = c .before .before .before .before .before .args in
     let call = c .before .before .put-byte in
-    let l = a .line .now in
-    let i = a .i in
-    let k = i * 24 + 24 - i * 24 in
-    let e : k ≡ slotSize = omega arith in
-    let m = midOf (i * 24) k l in
-    let lm : length m ≡ slotSize = rw e (length-part l i (omega arith)) in
-    line-update (withByte (a .f) (a .n)) l (call .last .0) i k (omega arith) e (call .kept .0) (call .ensures)
+    line-update (a .line .now) (a .i) (omega arith) (withByte (a .f) (a .n)) (call .last .0) (call .kept .0) (call .ensures)
 
 pub set-byte-spec : {M : Type 1} → statement M
 set-byte-spec =

@@ -1,13 +1,10 @@
 -- A write of two bytes is a change of the chain. Assumes nothing.
-use Prim.Native.Nat.{_+_, _-_, _*_}
 use native.Mathlib.Omega.{arith}
-use mathlib.Core.Path.{_≡_, ap, _∙_}
-use lib.ListN.{length}
-use borrow.Rule.Slice.PartMut.{midOf}
-use Rattle.slots.specs.Slot.{slotOf, slotSize}
+use mathlib.Core.Path.{ap, _∙_}
+use Rattle.slots.specs.Slot.{slotOf}
 use Rattle.ints.specs.Signed.{val}
 use Rattle.slots.specs.Fields.{withChain}
-use Rattle.slots.proofs.LineLaws.{length-part, line-update}
+use Rattle.slots.proofs.LineLaws.{lent, lent-length, line-update}
 use Rattle.slots.proofs.FieldLaws.{chain-put}
 use borrow.Author.Needs.{needs}
 use Rattle.slots.proofs.fields.set_chain.Statement.{statement}
@@ -40,11 +37,7 @@ returns c =
     let call = c .before .before .write-i16 in
     let l = a .line .now in
     let i = a .i in
-    let k = i * 24 + 24 - i * 24 in
-    let e : k ≡ slotSize = omega arith in
-    let m = midOf (i * 24) k l in
-    let lm : length m ≡ slotSize = rw e (length-part l i (omega arith)) in
-    line-update (withChain (val (a .v))) l (call .last .0) i k (omega arith) e (call .kept .0) (ap slotOf (call .ensures) ∙ chain-put (val (a .v)) (omega arith) m lm)
+    line-update l i (omega arith) (withChain (val (a .v))) (call .last .0) (call .kept .0) (ap slotOf (call .ensures) ∙ chain-put (val (a .v)) (omega arith) (lent l i) (lent-length l i (omega arith)))
 
 pub set-chain-spec : {M : Type 1} → statement M
 set-chain-spec =

@@ -1,12 +1,9 @@
 -- A write of two bytes is a change of the glyph. Assumes nothing.
-use Prim.Native.Nat.{_+_, _-_, _*_}
 use native.Mathlib.Omega.{arith}
-use mathlib.Core.Path.{_≡_, ap, _∙_}
-use lib.ListN.{length}
-use borrow.Rule.Slice.PartMut.{midOf}
-use Rattle.slots.specs.Slot.{slotOf, slotSize}
+use mathlib.Core.Path.{ap, _∙_}
+use Rattle.slots.specs.Slot.{slotOf}
 use Rattle.slots.specs.Fields.{withGlyph}
-use Rattle.slots.proofs.LineLaws.{length-part, line-update}
+use Rattle.slots.proofs.LineLaws.{lent, lent-length, line-update}
 use Rattle.slots.proofs.FieldLaws.{glyph-put}
 use borrow.Author.Needs.{needs}
 use Rattle.slots.proofs.fields.set_glyph.Statement.{statement}
@@ -39,11 +36,7 @@ returns c =
     let call = c .before .before .write-u16 in
     let l = a .line .now in
     let i = a .i in
-    let k = i * 24 + 24 - i * 24 in
-    let e : k ≡ slotSize = omega arith in
-    let m = midOf (i * 24) k l in
-    let lm : length m ≡ slotSize = rw e (length-part l i (omega arith)) in
-    line-update (withGlyph (a .n)) l (call .last .0) i k (omega arith) e (call .kept .0) (ap slotOf (call .ensures) ∙ glyph-put (a .n) (omega arith) m lm)
+    line-update l i (omega arith) (withGlyph (a .n)) (call .last .0) (call .kept .0) (ap slotOf (call .ensures) ∙ glyph-put (a .n) (omega arith) (lent l i) (lent-length l i (omega arith)))
 
 pub set-glyph-spec : {M : Type 1} → statement M
 set-glyph-spec =

@@ -1,9 +1,6 @@
 -- The part of 24 bytes at i * 24 is slot i. Assumes nothing.
-use Prim.Native.Nat.{_+_, _-_, _*_}
 use native.Mathlib.Omega.{arith}
-use Rattle.slots.specs.Slot.{slotSize}
-use Rattle.slots.proofs.LineLaws.{length-part, line-get}
-use mathlib.Core.Path.{_≡_}
+use Rattle.slots.proofs.LineLaws.{lent-length, line-get}
 use borrow.Author.Needs.{needs}
 use Rattle.slots.proofs.fields.slot_at.Statement.{statement}
 use Rattle.slots.proofs.fields.slot_at.Tie as tie
@@ -26,10 +23,7 @@ part-result-end c = search needs
 returns : tie.Need-returns
 returns c =
     let a = c .before .args in
-    let l = a .line .now in
-    let i = a .i in
-    let e : i * 24 + 24 - i * 24 ≡ slotSize = omega arith in
-    (line-get l i (i * 24 + 24 - i * 24) (omega arith) e, rw e (length-part l i (omega arith)))
+    (line-get (a .line .now) (a .i) (omega arith), lent-length (a .line .now) (a .i) (omega arith))
 
 pub slot-at-spec : {M : Type 1} → statement M
 slot-at-spec =

@@ -4,8 +4,8 @@ use Prim.Native.Nat.{ℕ, _<_}
 use native.Mathlib.Omega.{arith}
 use lib.IntN.{pos}
 use lib.ListN.{length}
-use Rattle.ints.specs.Signed.{pattern, signed, val}
-use Rattle.ints.proofs.SignedLaws.{pattern-signed}
+use Rattle.ints.specs.Signed.{signed, val}
+use Rattle.ints.proofs.SignedLaws.{signed-same}
 use Rattle.slots.specs.Line.{slot, slots}
 use Rattle.slots.specs.Parent.{parent, parentBy}
 use Rattle.slots.proofs.LineLaws.{length-slots}
@@ -16,8 +16,8 @@ use Rattle.slots.proofs.parent.parent_of.Tie as tie
 
 -- bits that aren't 0 stand for a number that isn't 0
 attached : (n : ℕ) → n < 4294967296 → (n ≡ 0 → ⊥) → val n ≡ pos 0 → ⊥
-unfolding pattern
-attached n h ne e = ne (sym (pattern-signed 4 n h) ∙ ap (pattern 4) e)
+unfolding signed
+attached n h ne e = ne (signed-same 4 n 0 h (omega arith) e)
 
 chain-requires : tie.Need-chain-requires
 chain-requires c κs = search needs

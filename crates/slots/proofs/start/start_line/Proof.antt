@@ -1,13 +1,14 @@
 -- After i turns the first i slots are unattached. Assumes nothing.
 use mathlib.Core.Path.{_≡_, refl, ap, _∙_}
-use Prim.Native.Nat.{ℕ, _+_, _-_, _*_, _≤_}
+use Prim.Native.Nat.{ℕ, _-_, _*_, _≤_}
 use native.Mathlib.Omega.{arith}
 use borrow.Author.Needs.{needs}
 use lib.ListN.{length}
-use borrow.Rule.Slice.PartMut.{putMid, same-len-mid}
+use borrow.Rule.Slice.PartMut.{same-len-mid}
+use Rattle.slots.specs.Slot.{slotSize}
 use Rattle.slots.specs.Line.{count, slots, update}
 use Rattle.slots.specs.Start.{unattached}
-use Rattle.slots.proofs.LineLaws.{length-part, length-slots, line-update}
+use Rattle.slots.proofs.LineLaws.{length-slots, lent-length, lentLength, line-update}
 use Rattle.slots.proofs.TurnLaws.{mapTo, mapTo-all, mapTo-more}
 use Rattle.slots.proofs.start.start_line.Statement.{statement}
 use Rattle.slots.proofs.start.start_line.Tie as tie
@@ -37,10 +38,7 @@ part-clear-end : tie.Need-part-clear-end Inv-loop μ-loop
 part-clear-end c = search needs
 
 clear-requires : tie.Need-clear-requires Inv-loop μ-loop
-clear-requires c κs =
-    let i = c .before .before .loop .i in
-    let e : i * 24 + 24 - i * 24 ≡ 24 = omega arith in
-    rw e (length-part (c .before .before .loop .line) i (omega arith))
+clear-requires c κs = lent-length (c .before .before .loop .line) (c .before .before .loop .i) (omega arith)
 
 add-i : tie.Need-add-i Inv-loop μ-loop
 add-i c = omega arith
@@ -54,12 +52,12 @@ loop-again c =
     let at-loop = c .before .before .before .before .before .loop in
     let call = c .before .before .clear in
     let i = at-loop .i in
-    let k = i * 24 + 24 - i * 24 in
-    let turn : slots (putMid (i * 24) k (at-loop .line) (call .last .0)) ≡ update i unattached (slots (at-loop .line)) = line-update unattached (at-loop .line) (call .last .0) i k (omega arith) (omega arith) (call .kept .0) (call .ensures) in (
+    let l = at-loop .line in (
       omega arith,
       refl,
-      same-len-mid (i * 24) k (at-loop .line) (call .last .0) (call .kept .0) ∙ at-loop .inv .2,
-      turn ∙ ap (update i unattached) (at-loop .inv .3) ∙ mapTo-more unattached i (slots l₀) (omega (arith, length-slots l₀)),
+      same-len-mid (i * slotSize) (lentLength i) l (call .last .0) (call .kept .0) ∙ at-loop .inv .2,
+      line-update l i (omega arith) unattached (call .last .0) (call .kept .0) (call .ensures)
+          ∙ ap (update i unattached) (at-loop .inv .3) ∙ mapTo-more unattached i (slots l₀) (omega (arith, length-slots l₀)),
     )
 
 same-length : tie.Need-same-length Inv-loop μ-loop

@@ -8,8 +8,8 @@ use lib.ListN.{length}
 use borrow.Author.Needs.{needs}
 use denote.Ref.{now}
 use Rattle.ints.specs.BigEndian.{natAt}
-use Rattle.tables.proofs.CoverageLaws.{Sound}
-use Rattle.tables.proofs.ClassDefLaws.{array-before, array-in, array-past, array-whole, header, range-in, range-out, ranges-sound}
+use Rattle.tables.proofs.CoverageLaws.{Sound, header, ranges-sound}
+use Rattle.tables.proofs.ClassDefLaws.{array-before, array-in, array-past, array-whole, range-in, range-out}
 use Rattle.tables.proofs.class_def.class_of.Statement.{statement}
 use Rattle.tables.proofs.class_def.class_of.Tie as tie
 
@@ -33,10 +33,10 @@ array c = array-whole (T (c .before)) (c .before .before .before .pre) (one c)
 ranges : (c : tie.After-read-u165) → Sound (T (c .before .before)) 6 2 (c .read-u165 .result)
 ranges c =
     let b = c .before .before in
-    ranges-sound (T b) (b .before .before .pre) (c .read-u165 .result) (c .read-u165 .ensures .0) (two (c .before))
+    ranges-sound (T b) _ (b .before .before .pre) (c .read-u165 .result) (c .read-u165 .ensures .0) (two (c .before))
 
 read-u16-requires : tie.Need-read-u16-requires
-read-u16-requires c κs = omega (arith, header (now (c .before .args .t)) (c .before .pre))
+read-u16-requires c κs = omega (arith, header (now (c .before .args .t)) _ (c .before .pre))
 
 read-u16-requires-2 : tie.Need-read-u16-requires-2
 read-u16-requires-2 c κs = omega (arith, array c)
@@ -88,7 +88,7 @@ returns-3 c =
     )
 
 read-u16-requires-5 : tie.Need-read-u16-requires-5
-read-u16-requires-5 c κs = header (T (c .before)) (c .before .before .before .pre)
+read-u16-requires-5 c κs = header (T (c .before)) _ (c .before .before .before .pre)
 
 cast-count : tie.Need-cast-count
 cast-count c = search needs

@@ -37,7 +37,7 @@ glyphs c =
 ranges : (c : tie.Else1) → Sound (T (c .before)) 6 2 (N (c .before))
 ranges c =
     let b = c .before in
-    ranges-sound (T b) (b .before .before .before .pre .1) (N b) (b .before .read-u16 .ensures .0) (two c)
+    ranges-sound (T b) _ (b .before .before .before .pre .1) (N b) (b .before .read-u16 .ensures .0) (two c)
 
 -- the row of the range that was found lies in the table, and starts at the glyph or below
 row : (c : tie.Then3) → 4 + 6 * c .before .seek2 .result + 6 ≤ length (T (c .before .before .before))
@@ -49,13 +49,13 @@ starts c =
     range-starts (T b) (G b) (N b) (c .before .seek2 .result) (c .before .seek2 .ensures .0) (c .if3 .taken)
 
 read-u16-requires : tie.Need-read-u16-requires
-read-u16-requires c κs = header (now (c .before .args .t)) (c .before .pre .1)
+read-u16-requires c κs = header (now (c .before .args .t)) _ (c .before .pre .1)
 
 cast-count : tie.Need-cast-count
 cast-count c = search needs
 
 read-u16-requires-2 : tie.Need-read-u16-requires-2
-read-u16-requires-2 c κs = omega (arith, header (now (c .before .before .args .t)) (c .before .before .pre .1))
+read-u16-requires-2 c κs = omega (arith, header (now (c .before .before .args .t)) _ (c .before .before .pre .1))
 
 seek-requires : tie.Need-seek-requires
 seek-requires c κs = ((omega arith, omega arith, omega arith, glyphs c .whole), glyphs c .up)

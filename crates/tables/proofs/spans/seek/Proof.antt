@@ -4,7 +4,7 @@ use native.Mathlib.Omega.{arith}
 use lib.ListN.{length}
 use denote.Ref.{now}
 use Rattle.tables.specs.Spans.{Span, spanAt}
-use Rattle.tables.proofs.SpansLaws.{Between, here, nowhere, at-start, go-down, go-up, halves-find, row-in}
+use Rattle.tables.proofs.SpansLaws.{Between, here, nowhere, ascends-apart, at-start, go-down, go-up, halves-find, row-in}
 use Rattle.tables.proofs.spans.seek.Statement.{statement}
 use Rattle.tables.proofs.spans.seek.Tie as tie
 
@@ -60,7 +60,7 @@ loop-again c =
     let b = c .before in
     let i = b .before .before in
     let s = i .before .before .before in
-    go-down (F s) (s .args .count) (s .args .glyph) _ _ (s .pre .1) (i .before .loop .inv) (M i) (omega arith) (omega arith)
+    go-down (F s) (s .args .count) (s .args .glyph) _ _ (ascends-apart (F s) (s .args .count) 0 0 (s .pre .1)) (i .before .loop .inv) (M i) (omega arith) (omega arith)
     (omega (arith, b .before .read-u16 .ensures .0))
 
 add-lo : tie.Need-add-lo Inv-loop μ-loop
@@ -75,7 +75,7 @@ loop-again-2 c =
     let b = c .before .before in
     let i = b .before .before in
     let s = i .before .before .before in
-    go-up (F s) (s .args .count) (s .args .glyph) _ _ (s .pre .1) (i .before .loop .inv) (M i) (omega arith) (omega arith)
+    go-up (F s) (s .args .count) (s .args .glyph) _ _ (ascends-apart (F s) (s .args .count) 0 0 (s .pre .1)) (i .before .loop .inv) (M i) (omega arith) (omega arith)
     (omega (arith, b .read-u162 .ensures .0))
 
 returns : tie.Need-returns Inv-loop μ-loop
