@@ -9,37 +9,22 @@ use Rattle.sums.proofs.adjusting.cut.Statement.{statement}
 use Rattle.sums.proofs.adjusting.cut.Tie as tie
 
 abbrev Inv-loop : tie.InvT-loop
-Inv-loop name t n₀ t4 t5 n = n ≤ length t + 1
+Inv-loop t n₀ t3 n = n ≤ length t + 1
 
 abbrev μ-loop : tie.MeasureT-loop
-μ-loop name t n₀ t4 t5 n = length t + 1 - n
+μ-loop t n₀ t3 n = length t + 1 - n
 
 loop-holds : tie.Need-loop-holds Inv-loop μ-loop
 loop-holds c = search needs
 
-text-requires : tie.Need-text-requires Inv-loop μ-loop
-text-requires c κs = search needs
+slice-aggregate-adjust-named : tie.Need-slice-aggregate-adjust-named Inv-loop μ-loop
+slice-aggregate-adjust-named c = search needs
 
-slice-aggregate-text : tie.Need-slice-aggregate-text Inv-loop μ-loop
-slice-aggregate-text c = search needs
+slice-aggregate-adjust-named-2 : tie.Need-slice-aggregate-adjust-named-2 Inv-loop μ-loop
+slice-aggregate-adjust-named-2 c = sym (length-take-le _ _ (omega arith))
 
-text-requires-2 : tie.Need-text-requires-2 Inv-loop μ-loop
-text-requires-2 c κs = search needs
-
-natural-requires : tie.Need-natural-requires Inv-loop μ-loop
-natural-requires c κs = search needs
-
-slice-aggregate-text-2 : tie.Need-slice-aggregate-text-2 Inv-loop μ-loop
-slice-aggregate-text-2 c = search needs
-
-text-requires-3 : tie.Need-text-requires-3 Inv-loop μ-loop
-text-requires-3 c κs = search needs
-
-slice-aggregate-adjust : tie.Need-slice-aggregate-adjust Inv-loop μ-loop
-slice-aggregate-adjust c = sym (length-take-le _ _ (omega arith))
-
-adjust-requires : tie.Need-adjust-requires Inv-loop μ-loop
-adjust-requires c κs = search needs
+adjust-named-requires : tie.Need-adjust-named-requires Inv-loop μ-loop
+adjust-named-requires c κs = search needs
 
 add-n : tie.Need-add-n Inv-loop μ-loop
 add-n c = search needs
@@ -60,14 +45,9 @@ cut-spec =
     Inv-loop
     μ-loop
     loop-holds
-    text-requires
-    slice-aggregate-text
-    text-requires-2
-    natural-requires
-    slice-aggregate-text-2
-    text-requires-3
-    slice-aggregate-adjust
-    adjust-requires
+    slice-aggregate-adjust-named
+    slice-aggregate-adjust-named-2
+    adjust-named-requires
     add-n
     loop-less
     loop-again
