@@ -5,9 +5,12 @@ use ints::big_endian::Signed;
 use slots::axis::Axis;
 use slots::fields::ByteField;
 use slots::fields::Measure;
+ghost use mathlib.Core.Path.{_≡_};
 ghost use Prim.Native.Nat.{_≤_, _<_};
 ghost use Rattle.ints.specs.Signed.{InBytes, val};
-ghost use Rattle.slots.specs.Line.{count};
+ghost use Rattle.slots.specs.Line.{count, slot, slots, update};
+ghost use Rattle.finish_run.specs.Cases.{chainAndTen, filledSlot, filledTo, hung, kindOf, lessTen, spreadOf, withBoth};
+ghost use Rattle.finish_run.specs.Shown.{chainedIn, hasChain, sumFrom};
 
 // How the slots of a line hang on each other.
 enum Case {
@@ -37,6 +40,7 @@ fn show_case(case: Case) {
 // The attach type of slot i.
 fn kind_of(case: Case, i: u32) -> u8
     requires { ⌜ i < 2048 ⌝ }
+    ensures { λ r. ⌜ r ≡ kindOf case i ⌝ }
 {
     match case {
         Case::Stacked => 1,
@@ -53,7 +57,7 @@ fn kind_of(case: Case, i: u32) -> u8
 // The chain of slot i, and 10.
 fn chain_and_ten(case: Case, i: u32) -> u32
     requires { ⌜ i < 2048 ⌝ }
-    ensures { λ r. ⌜ r ≤ 20 ⌝ }
+    ensures { λ r. ⌜ (r ≡ chainAndTen case i) × (r ≤ 20) ⌝ }
 {
     match case {
         Case::Stacked => if i % 8 == 0 { 10 } else { 9 },
@@ -70,7 +74,7 @@ fn chain_and_ten(case: Case, i: u32) -> u32
 // A number from -10 to 10, from one that is 10 more.
 fn less_ten(n: u32) -> Signed
     requires { ⌜ n ≤ 20 ⌝ }
-    ensures { λ r. ⌜ InBytes 2 (val r) ⌝ }
+    ensures { λ r. ⌜ (val r ≡ lessTen n) × InBytes 2 (val r) ⌝ }
 {
     if n < 10 { n + 4294967286 } else { n - 10 }
 }
@@ -78,6 +82,7 @@ fn less_ten(n: u32) -> Signed
 // A number from -500 to 500 that depends on n; in the huge case four million times that.
 fn spread(case: Case, n: u32) -> Signed
     requires { ⌜ n < 1000000 ⌝ }
+    ensures { λ r. ⌜ val r ≡ spreadOf case n ⌝ }
 {
     let m = n as u64 % 1001;
     match case {
@@ -89,6 +94,7 @@ fn spread(case: Case, n: u32) -> Signed
 // The type and the chain of slot i.
 fn hang(line: &mut [u8], i: usize, case: Case)
     requires { ⌜ (i < count (now line)) × (i < 2048) ⌝ }
+    ensures { λ _. ⌜ slots (now (line .exit)) ≡ update i (hung case i) (slots (now (line .entry))) ⌝ }
 {
     let n = i as u32;
     slots::fields::set_byte(line, i, ByteField::AttachType, kind_of(case, n));
@@ -98,6 +104,7 @@ fn hang(line: &mut [u8], i: usize, case: Case)
 // The advances or the offsets of slot i.
 fn set_both(line: &mut [u8], i: usize, m: Measure, x: Signed, y: Signed)
     requires { ⌜ i < count (now line) ⌝ }
+    ensures { λ _. ⌜ slots (now (line .exit)) ≡ update i (withBoth m (val x) (val y)) (slots (now (line .entry))) ⌝ }
 {
     slots::fields::set(line, i, m, Axis::X, x);
     slots::fields::set(line, i, m, Axis::Y, y);
@@ -105,6 +112,7 @@ fn set_both(line: &mut [u8], i: usize, m: Measure, x: Signed, y: Signed)
 
 fn fill_slot(line: &mut [u8], i: usize, case: Case)
     requires { ⌜ (i < count (now line)) × (i < 2048) ⌝ }
+    ensures { λ _. ⌜ slots (now (line .exit)) ≡ update i (filledSlot case i) (slots (now (line .entry))) ⌝ }
 {
     let n = i as u32;
     let x = spread(case, n * 37);
@@ -118,6 +126,7 @@ fn fill_slot(line: &mut [u8], i: usize, case: Case)
 
 fn fill(line: &mut [u8], case: Case)
     requires { ⌜ count (now line) < 2048 ⌝ }
+    ensures { λ _. ⌜ slots (now (line .exit)) ≡ filledTo case (count (now (line .entry))) (slots (now (line .entry))) ⌝ }
 {
     let n = slots::fields::slot_count(line);
     let mut i = 0;
@@ -128,7 +137,9 @@ fn fill(line: &mut [u8], case: Case)
 }
 
 // A number that stands for all bytes of a line.
-fn checksum(line: &[u8]) -> u64 {
+fn checksum(line: &[u8]) -> u64
+    ensures { λ r. ⌜ r ≡ sumFrom 0 (now (line .entry)) ⌝ }
+{
     let mut sum: u64 = 0;
     let mut i = 0;
     while i < line.len() {
@@ -138,18 +149,29 @@ fn checksum(line: &[u8]) -> u64 {
     sum
 }
 
+// 1 where slot i has a chain, else 0.
+fn chained_at(line: &[u8], i: usize) -> u64
+    requires { ⌜ i < count (now line) ⌝ }
+    ensures { λ r. ⌜ (r ≡ hasChain (slot (slots (now (line .entry))) i)) × (r ≤ 1) ⌝ }
+{
+    if slots::fields::chain(line, i) == 0 {
+        return 0;
+    }
+    1
+}
+
 // How many slots have a chain.
-fn chained(line: &[u8]) -> u64 {
+fn chained(line: &[u8]) -> u64
+    ensures { λ r. ⌜ r ≡ chainedIn (slots (now (line .entry))) ⌝ }
+{
     let n = slots::fields::slot_count(line);
-    let mut left: u64 = 0;
+    let mut sum: u64 = 0;
     let mut i = 0;
     while i < n {
-        if slots::fields::chain(line, i) != 0 {
-            left += 1;
-        }
+        sum += chained_at(line, i);
         i += 1;
     }
-    left
+    sum
 }
 
 fn show_line(line: &[u8]) {
