@@ -24,19 +24,6 @@ enum Case {
     Huge,
 }
 
-fn show_case(case: Case) {
-    match case {
-        Case::Stacked => show::text(b"marks on the slot before, a base each eight slots\n"),
-        Case::Ahead => show::text(b"marks on the slot after, a base each eight slots\n"),
-        Case::CursiveUp => show::text(b"cursive glyphs on the slot after\n"),
-        Case::CursiveDown => show::text(b"cursive glyphs on the slot before\n"),
-        Case::Pairs => show::text(b"loops of two cursive glyphs\n"),
-        Case::Rings => show::text(b"loops of eight, marks and cursive glyphs in turn\n"),
-        Case::Mixed => show::text(b"types 0 to 3, chains -10 to 10\n"),
-        Case::Huge => show::text(b"the same, with sums past 32 bits\n"),
-    }
-}
-
 // The attach type of slot i.
 fn kind_of(case: Case, i: u32) -> u8
     requires { ⌜ i < 2048 ⌝ }
@@ -174,23 +161,32 @@ fn chained(line: &[u8]) -> u64
     sum
 }
 
-fn show_line(line: &[u8]) {
-    show::text(b"checksum ");
-    show::natural(checksum(line));
-    show::text(b", chains left ");
-    show::natural(chained(line));
-    show::text(b"\n");
+// A name and a number after it.
+fn say(name: &[u8], n: u64) {
+    show::text(name);
+    show::natural(n);
+}
+
+fn show_call(direction: u32, limit: u32) {
+    say(b"  direction ", direction as u64);
+    say(b" limit ", limit as u64);
+    show::text(b": ");
 }
 
 fn show_answer(answer: Done) {
     match answer {
         Done::Done => show::text(b"done, "),
         Done::Refused(r) => {
-            show::text(b"refused ");
-            show::natural(answers::refusal_number(r) as u64);
+            say(b"refused ", answers::refusal_number(r) as u64);
             show::text(b", ");
         }
     }
+}
+
+fn show_line(line: &[u8]) {
+    say(b"checksum ", checksum(line));
+    say(b", chains left ", chained(line));
+    show::text(b"\n");
 }
 
 // A line of 1,024 slots is filled, finished and shown.
@@ -198,11 +194,7 @@ fn run(case: Case, direction: u32, limit: u32, attachments: bool) {
     let mut space = [0u8; 24576];
     let line: &mut [u8] = &mut space;
     fill(line, case);
-    show::text(b"  direction ");
-    show::natural(direction as u64);
-    show::text(b" limit ");
-    show::natural(limit as u64);
-    show::text(b": ");
+    show_call(direction, limit);
     show_answer(gpos::finish(line, direction, limit, attachments));
     show_line(line);
 }
@@ -213,23 +205,41 @@ fn run_limits(case: Case, direction: u32) {
     run(case, direction, 64, true);
 }
 
-fn run_case(case: Case) {
-    show_case(case);
+fn run_case(name: &[u8], case: Case) {
+    show::text(name);
     run_limits(case, 0);
     run_limits(case, 1);
     run_limits(case, 2);
     run_limits(case, 3);
 }
 
+// Chains that end.
+fn run_chains() {
+    run_case(
+        b"marks on the slot before, a base each eight slots\n",
+        Case::Stacked,
+    );
+    run_case(
+        b"marks on the slot after, a base each eight slots\n",
+        Case::Ahead,
+    );
+    run_case(b"cursive glyphs on the slot after\n", Case::CursiveUp);
+    run_case(b"cursive glyphs on the slot before\n", Case::CursiveDown);
+}
+
+fn run_loops() {
+    run_case(b"loops of two cursive glyphs\n", Case::Pairs);
+    run_case(
+        b"loops of eight, marks and cursive glyphs in turn\n",
+        Case::Rings,
+    );
+    run_case(b"types 0 to 3, chains -10 to 10\n", Case::Mixed);
+    run_case(b"the same, with sums past 32 bits\n", Case::Huge);
+}
+
 fn main() {
-    run_case(Case::Stacked);
-    run_case(Case::Ahead);
-    run_case(Case::CursiveUp);
-    run_case(Case::CursiveDown);
-    run_case(Case::Pairs);
-    run_case(Case::Rings);
-    run_case(Case::Mixed);
-    run_case(Case::Huge);
+    run_chains();
+    run_loops();
     show::text(b"refused\n");
     run(Case::Mixed, 0, 65, true);
     run(Case::Mixed, 4, 64, true);
