@@ -1,6 +1,7 @@
 // Single adjustment of one slot, by value records written out: formats 1 and 2 of SinglePos, glyph 7 covered.
 use crate::answer::announce;
 use crate::answer::show_answer;
+use ints::big_endian::Signed;
 
 // Glyph 7, all else 0.
 const SEVEN: [u8; 24] =
@@ -14,32 +15,30 @@ const HIGH: [u8; 24] =
 const LOW: [u8; 24] =
     *b"\x00\x07\x00\x00\x00\x00\x00\x00\x80\x00\x03\xE8\x80\x00\x03\xE8\x80\x00\x03\xE8\x00\x00\x00\x00";
 
-// A line of one slot, adjusted by a subtable.
-fn adjust(slot: [u8; 24], t: &[u8], direction: u32) {
+// Prints what is run, with a number; then a line of one slot is adjusted by a subtable.
+fn adjust(name: &[u8], n: Signed, slot: [u8; 24], t: &[u8], direction: u32) {
+    announce(name, n);
     let mut space = slot;
     let line: &mut [u8] = &mut space;
     show_answer(gpos::single(line, t, direction, 1000, 1000, 0), line, 0);
 }
 
-fn adjust_named(name: &[u8], n: u64, slot: [u8; 24], t: &[u8], direction: u32) {
-    announce(name, n);
-    adjust(slot, t, direction);
-}
-
 // The same in each direction.
 fn adjust_all(name: &[u8], slot: [u8; 24], subtable: [u8; 16]) {
     let t: &[u8] = &subtable;
-    adjust_named(name, 0, slot, t, 0);
-    adjust_named(name, 1, slot, t, 1);
-    adjust_named(name, 2, slot, t, 2);
-    adjust_named(name, 3, slot, t, 3);
+    adjust(name, 0, slot, t, 0);
+    adjust(name, 1, slot, t, 1);
+    adjust(name, 2, slot, t, 2);
+    adjust(name, 3, slot, t, 3);
 }
 
 // A subtable cut at every byte.
-fn cut(t: &[u8]) {
-    let mut n = 0;
-    while n <= t.len() {
-        adjust_named(b"format 255 cut at #: ", n as u64, SEVEN, &t[..n], 0);
+fn cut(subtable: [u8; 22]) {
+    let t: &[u8] = &subtable;
+    let mut n: u32 = 0;
+    while n <= 22 {
+        let end = n as usize;
+        adjust(b"format 255 cut at #: ", n, SEVEN, &t[..end], 0);
         n += 1;
     }
 }
@@ -68,33 +67,36 @@ fn ends() {
     adjust_all(b"bottom of 32 bits direction #: ", LOW, DOWN);
 }
 
+// A value record of all eight fields, which takes the bytes to the end.
+const ALL_FIELDS: [u8; 22] =
+    *b"\x00\x01\x00\x08\x00\xFF\x00\x09\x00\x01\x00\x01\x00\x07\x00\x00\x00\x00\x00\x00\x00\x00";
+
 fn formats() {
     let name: &[u8] = b"format #: ";
-    adjust_named(
+    adjust(
         name,
         0,
         SEVEN,
         b"\x00\x01\x00\x06\x00\x00\x00\x01\x00\x01\x00\x07",
         0,
     );
-    adjust_named(
+    adjust(
         name,
         256,
         SEVEN,
         b"\x00\x01\x00\x06\x01\x00\x00\x01\x00\x01\x00\x07",
         0,
     );
-    cut(
-        b"\x00\x01\x00\x08\x00\xFF\x00\x09\x00\x01\x00\x01\x00\x07\x00\x00\x00\x00\x00\x00\x00\x00",
-    );
+    cut(ALL_FIELDS);
 }
 
 // Format 2 has a record for glyph 7 alone, and covers glyphs 7 and 8.
 fn adjust_by_index(name: &[u8], glyph: u8) {
     let mut slot = SEVEN;
     slot[1] = glyph;
-    show::text(name);
     adjust(
+        name,
+        0,
         slot,
         b"\x00\x02\x00\x0A\x00\x04\x00\x01\x00\x14\x00\x01\x00\x02\x00\x07\x00\x08",
         0,

@@ -1,5 +1,6 @@
 // What was run and what it answered, as text.
 use answers::Answer;
+use ints::big_endian::Signed;
 use slots::axis::Axis;
 use slots::fields::Measure;
 use slots::fields::get;
@@ -8,12 +9,12 @@ ghost use lib.ListN.{length};
 ghost use Rattle.slots.specs.Line.{count};
 
 // Prints byte i of a text, or the next number in place of a '#', and answers how many numbers are printed.
-fn print_at(text: &[u8], i: usize, numbers: [u64; 5], printed: usize) -> usize
+fn print_at(text: &[u8], i: usize, numbers: [Signed; 5], printed: usize) -> usize
     requires { ⌜ (i < length (now text)) × (printed ≤ i) ⌝ }
     ensures { λ r. ⌜ r ≤ printed + 1 ⌝ }
 {
     if text[i] == b'#' {
-        show::integer((numbers[printed % 5] % 4294967296) as u32);
+        show::integer(numbers[printed % 5]);
         return printed + 1;
     }
     let j = i + 1;
@@ -21,8 +22,8 @@ fn print_at(text: &[u8], i: usize, numbers: [u64; 5], printed: usize) -> usize
     printed
 }
 
-// Prints a text with the numbers, in turn and each as 32 signed bits, in place of its '#'.
-pub fn print(text: &[u8], numbers: [u64; 5]) {
+// Prints a text with the numbers, in turn, in place of its '#'.
+pub fn print(text: &[u8], numbers: [Signed; 5]) {
     let mut i = 0;
     let mut printed = 0;
     while i < text.len() {
@@ -32,20 +33,26 @@ pub fn print(text: &[u8], numbers: [u64; 5]) {
 }
 
 // The same with one number.
-pub fn announce(text: &[u8], n: u64) {
+pub fn announce(text: &[u8], n: Signed) {
     print(text, [n, 0, 0, 0, 0]);
 }
 
 fn show_applied(next: usize, line: &[u8], i: usize)
     requires { ⌜ i < count (now line) ⌝ }
 {
-    let x_offset = get(line, i, Measure::Offset, Axis::X) as u64;
-    let y_offset = get(line, i, Measure::Offset, Axis::Y) as u64;
-    let x_advance = get(line, i, Measure::Advance, Axis::X) as u64;
-    let y_advance = get(line, i, Measure::Advance, Axis::Y) as u64;
+    let x_offset = get(line, i, Measure::Offset, Axis::X);
+    let y_offset = get(line, i, Measure::Offset, Axis::Y);
+    let x_advance = get(line, i, Measure::Advance, Axis::X);
+    let y_advance = get(line, i, Measure::Advance, Axis::Y);
     print(
         b"applied, next #, x offset #, y offset #, x advance #, y advance #\n",
-        [next as u64, x_offset, y_offset, x_advance, y_advance],
+        [
+            (next % 4294967296) as u32,
+            x_offset,
+            y_offset,
+            x_advance,
+            y_advance,
+        ],
     );
 }
 

@@ -19,7 +19,7 @@ pub fn attach_to_loop(kind: u8) {
     let mut line = LOOP;
     line[5] = kind;
     line[29] = kind;
-    announce(b"mark on a loop of type #: ", kind as u64);
+    announce(b"mark on a loop of type #: ", kind as u32);
     attach(
         &mut line,
         b"\x00\x01\x00\x0C\x00\x12\x00\x01\x00\x18\x00\x24\x00\x01\x00\x01\x00\x02\x00\x01\x00\x01\x00\x01\x00\x01\x00\x00\x00\x06\x00\x01\x00\x0A\x00\x14\x00\x01\x00\x04\x00\x01\x01\x2C\x02\xBC",
@@ -28,6 +28,6 @@ pub fn attach_to_loop(kind: u8) {
 
 pub fn finish_by(limit: u32) {
     let mut space = [0u8; 24];
-    announce(b"finish by limit #: ", limit as u64);
+    announce(b"finish by limit #: ", limit);
     show::done(gpos::finish(&mut space, 0, limit, true));
 }

@@ -11,8 +11,8 @@ ghost use Rattle.slots.specs.Line.{count};
 
 // P1: 3 and -3 at half size.
 fn scales() {
-    let up = ints::scale::scale(3, 500, 1000) as u64;
-    let down = ints::scale::scale(4294967293, 500, 1000) as u64;
+    let up = ints::scale::scale(3, 500, 1000);
+    let down = ints::scale::scale(4294967293, 500, 1000);
     print(
         b"P1 s 500 u 1000: 3 becomes #, -3 becomes #\n",
         [up, down, 0, 0, 0],
@@ -24,7 +24,7 @@ fn start_zeros(n: usize)
     requires { ⌜ n ≤ 24600 ⌝ }
 {
     let mut space = [0u8; 24600];
-    announce(b"start # bytes: ", n as u64);
+    announce(b"start # bytes: ", n as u32);
     show::done(gpos::start(&mut space[..n]));
 }
 
@@ -33,7 +33,7 @@ fn start_with(name: &[u8], f: ByteField, n: u8) {
     let mut space = [0u8; 48];
     let line: &mut [u8] = &mut space;
     slots::fields::set_byte(line, 1, f, n);
-    announce(name, n as u64);
+    announce(name, n as u32);
     show::done(gpos::start(line));
 }
 
@@ -52,15 +52,16 @@ fn start_ranges() {
     start_with(b"start with type #: ", ByteField::AttachType, 255);
 }
 
-fn show_attachment(line: &[u8], i: usize)
-    requires { ⌜ i < count (now line) ⌝ }
+fn show_attachment(line: &[u8], n: u32)
+    requires { ⌜ n < count (now line) ⌝ }
 {
-    let kind = slots::fields::get_byte(line, i, ByteField::AttachType) as u64;
-    let chain = slots::fields::chain(line, i) as u64;
-    let glyph = slots::fields::glyph(line, i) as u64;
+    let i = n as usize;
+    let kind = slots::fields::get_byte(line, i, ByteField::AttachType) as u32;
+    let chain = slots::fields::chain(line, i);
+    let glyph = slots::fields::glyph(line, i);
     print(
         b"  slot # type # chain # glyph #\n",
-        [i as u64, kind, chain, glyph, 0],
+        [n, kind, chain, glyph, 0],
     );
 }
 

@@ -9,15 +9,9 @@ scale-requires : tie.Need-scale-requires
 unfolding signed
 scale-requires c κs = (omega arith, record { s-low = omega arith; s-high = omega arith; u-low = omega arith; u-high = omega arith })
 
-cast-up : tie.Need-cast-up
-cast-up c = search needs
-
 scale-requires-2 : tie.Need-scale-requires-2
 unfolding signed
 scale-requires-2 c κs = (omega arith, record { s-low = omega arith; s-high = omega arith; u-low = omega arith; u-high = omega arith })
-
-cast-down : tie.Need-cast-down
-cast-down c = search needs
 
 slice-aggregate-print : tie.Need-slice-aggregate-print
 slice-aggregate-print c = search needs
@@ -31,11 +25,4 @@ returns c = search needs
 pub scales-spec : {M : Type 1} → statement M
 scales-spec =
     tie.close
-    (tie.spec
-    scale-requires
-    cast-up
-    scale-requires-2
-    cast-down
-    slice-aggregate-print
-    print-requires
-    returns)
+    (tie.spec scale-requires scale-requires-2 slice-aggregate-print print-requires returns)

@@ -9,6 +9,9 @@ use Rattle.sums.proofs.start_zeros.Tie as tie
 slice-aggregate-announce : tie.Need-slice-aggregate-announce
 slice-aggregate-announce c = search needs
 
+cast-announce : tie.Need-cast-announce
+cast-announce c = search needs
+
 announce-requires : tie.Need-announce-requires
 announce-requires c κs = search needs
 
@@ -32,6 +35,7 @@ start-zeros-spec =
     tie.close
     (tie.spec
     slice-aggregate-announce
+    cast-announce
     announce-requires
     array-borrow-prefix-space
     slice-aggregate-start

@@ -1,6 +1,6 @@
 -- Every end up to the length is inside. Assumes nothing.
-use Prim.Native.Nat.{_+_, _-_, _≤_}
-use mathlib.Core.Path.{sym}
+use mathlib.Core.Path.{_≡_, sym}
+use Prim.Native.Nat.{_-_, _≤_}
 use native.Mathlib.Omega.{arith}
 use lib.ListN.{length}
 use lib.Seq.{length-take-le}
@@ -9,22 +9,28 @@ use Rattle.sums.proofs.adjusting.cut.Statement.{statement}
 use Rattle.sums.proofs.adjusting.cut.Tie as tie
 
 abbrev Inv-loop : tie.InvT-loop
-Inv-loop t n₀ t3 n = n ≤ length t + 1
+Inv-loop t n₀ t6 n = (length t ≡ 22) × (n ≤ 23)
 
 abbrev μ-loop : tie.MeasureT-loop
-μ-loop t n₀ t3 n = length t + 1 - n
+μ-loop t n₀ t6 n = 23 - n
+
+slice-aggregate-t : tie.Need-slice-aggregate-t Inv-loop μ-loop
+slice-aggregate-t c = search needs
 
 loop-holds : tie.Need-loop-holds Inv-loop μ-loop
 loop-holds c = search needs
 
-slice-aggregate-adjust-named : tie.Need-slice-aggregate-adjust-named Inv-loop μ-loop
-slice-aggregate-adjust-named c = search needs
+cast-end : tie.Need-cast-end Inv-loop μ-loop
+cast-end c = search needs
 
-slice-aggregate-adjust-named-2 : tie.Need-slice-aggregate-adjust-named-2 Inv-loop μ-loop
-slice-aggregate-adjust-named-2 c = sym (length-take-le _ _ (omega arith))
+slice-aggregate-adjust : tie.Need-slice-aggregate-adjust Inv-loop μ-loop
+slice-aggregate-adjust c = search needs
 
-adjust-named-requires : tie.Need-adjust-named-requires Inv-loop μ-loop
-adjust-named-requires c κs = search needs
+slice-aggregate-adjust-2 : tie.Need-slice-aggregate-adjust-2 Inv-loop μ-loop
+slice-aggregate-adjust-2 c = sym (length-take-le _ _ (omega arith))
+
+adjust-requires : tie.Need-adjust-requires Inv-loop μ-loop
+adjust-requires c κs = search needs
 
 add-n : tie.Need-add-n Inv-loop μ-loop
 add-n c = search needs
@@ -44,10 +50,12 @@ cut-spec =
     (tie.spec
     Inv-loop
     μ-loop
+    slice-aggregate-t
     loop-holds
-    slice-aggregate-adjust-named
-    slice-aggregate-adjust-named-2
-    adjust-named-requires
+    cast-end
+    slice-aggregate-adjust
+    slice-aggregate-adjust-2
+    adjust-requires
     add-n
     loop-less
     loop-again
