@@ -1,5 +1,5 @@
 // Sums worked by hand in document 01, run: each line says what was done and what came of it.
-mod answer; // what a call answered
+mod answer; // texts with numbers, and what a call answered
 mod adjusting; // single adjustment
 mod attaching; // a mark on a loop, the limit of nesting
 
