@@ -5,9 +5,12 @@ use ints::big_endian::Signed;
 use slots::axis::Axis;
 use slots::fields::ByteField;
 use slots::fields::Measure;
+ghost use mathlib.Core.Path.{_≡_};
 ghost use Prim.Native.Nat.{_≤_, _<_};
 ghost use Rattle.ints.specs.Signed.{InBytes, val};
-ghost use Rattle.slots.specs.Line.{count};
+ghost use Rattle.slots.specs.Line.{count, slot, slots, update};
+ghost use Rattle.finish_run.specs.Cases.{chainAndTen, filledSlot, filledTo, hung, kindOf, lessTen, spreadOf, withBoth};
+ghost use Rattle.finish_run.specs.Shown.{chainedIn, hasChain, sumFrom};
 
 // How the slots of a line hang on each other.
 enum Case {
@@ -21,22 +24,10 @@ enum Case {
     Huge,
 }
 
-fn show_case(case: Case) {
-    match case {
-        Case::Stacked => show::text(b"marks on the slot before, a base each eight slots\n"),
-        Case::Ahead => show::text(b"marks on the slot after, a base each eight slots\n"),
-        Case::CursiveUp => show::text(b"cursive glyphs on the slot after\n"),
-        Case::CursiveDown => show::text(b"cursive glyphs on the slot before\n"),
-        Case::Pairs => show::text(b"loops of two cursive glyphs\n"),
-        Case::Rings => show::text(b"loops of eight, marks and cursive glyphs in turn\n"),
-        Case::Mixed => show::text(b"types 0 to 3, chains -10 to 10\n"),
-        Case::Huge => show::text(b"the same, with sums past 32 bits\n"),
-    }
-}
-
 // The attach type of slot i.
 fn kind_of(case: Case, i: u32) -> u8
     requires { ⌜ i < 2048 ⌝ }
+    ensures { λ r. ⌜ r ≡ kindOf case i ⌝ }
 {
     match case {
         Case::Stacked => 1,
@@ -53,7 +44,7 @@ fn kind_of(case: Case, i: u32) -> u8
 // The chain of slot i, and 10.
 fn chain_and_ten(case: Case, i: u32) -> u32
     requires { ⌜ i < 2048 ⌝ }
-    ensures { λ r. ⌜ r ≤ 20 ⌝ }
+    ensures { λ r. ⌜ (r ≡ chainAndTen case i) × (r ≤ 20) ⌝ }
 {
     match case {
         Case::Stacked => if i % 8 == 0 { 10 } else { 9 },
@@ -70,7 +61,7 @@ fn chain_and_ten(case: Case, i: u32) -> u32
 // A number from -10 to 10, from one that is 10 more.
 fn less_ten(n: u32) -> Signed
     requires { ⌜ n ≤ 20 ⌝ }
-    ensures { λ r. ⌜ InBytes 2 (val r) ⌝ }
+    ensures { λ r. ⌜ (val r ≡ lessTen n) × InBytes 2 (val r) ⌝ }
 {
     if n < 10 { n + 4294967286 } else { n - 10 }
 }
@@ -78,6 +69,7 @@ fn less_ten(n: u32) -> Signed
 // A number from -500 to 500 that depends on n; in the huge case four million times that.
 fn spread(case: Case, n: u32) -> Signed
     requires { ⌜ n < 1000000 ⌝ }
+    ensures { λ r. ⌜ val r ≡ spreadOf case n ⌝ }
 {
     let m = n as u64 % 1001;
     match case {
@@ -89,6 +81,7 @@ fn spread(case: Case, n: u32) -> Signed
 // The type and the chain of slot i.
 fn hang(line: &mut [u8], i: usize, case: Case)
     requires { ⌜ (i < count (now line)) × (i < 2048) ⌝ }
+    ensures { λ _. ⌜ slots (now (line .exit)) ≡ update i (hung case i) (slots (now (line .entry))) ⌝ }
 {
     let n = i as u32;
     slots::fields::set_byte(line, i, ByteField::AttachType, kind_of(case, n));
@@ -98,6 +91,7 @@ fn hang(line: &mut [u8], i: usize, case: Case)
 // The advances or the offsets of slot i.
 fn set_both(line: &mut [u8], i: usize, m: Measure, x: Signed, y: Signed)
     requires { ⌜ i < count (now line) ⌝ }
+    ensures { λ _. ⌜ slots (now (line .exit)) ≡ update i (withBoth m (val x) (val y)) (slots (now (line .entry))) ⌝ }
 {
     slots::fields::set(line, i, m, Axis::X, x);
     slots::fields::set(line, i, m, Axis::Y, y);
@@ -105,6 +99,7 @@ fn set_both(line: &mut [u8], i: usize, m: Measure, x: Signed, y: Signed)
 
 fn fill_slot(line: &mut [u8], i: usize, case: Case)
     requires { ⌜ (i < count (now line)) × (i < 2048) ⌝ }
+    ensures { λ _. ⌜ slots (now (line .exit)) ≡ update i (filledSlot case i) (slots (now (line .entry))) ⌝ }
 {
     let n = i as u32;
     let x = spread(case, n * 37);
@@ -118,6 +113,7 @@ fn fill_slot(line: &mut [u8], i: usize, case: Case)
 
 fn fill(line: &mut [u8], case: Case)
     requires { ⌜ count (now line) < 2048 ⌝ }
+    ensures { λ _. ⌜ slots (now (line .exit)) ≡ filledTo case (count (now (line .entry))) (slots (now (line .entry))) ⌝ }
 {
     let n = slots::fields::slot_count(line);
     let mut i = 0;
@@ -128,7 +124,9 @@ fn fill(line: &mut [u8], case: Case)
 }
 
 // A number that stands for all bytes of a line.
-fn checksum(line: &[u8]) -> u64 {
+fn checksum(line: &[u8]) -> u64
+    ensures { λ r. ⌜ r ≡ sumFrom 0 (now (line .entry)) ⌝ }
+{
     let mut sum: u64 = 0;
     let mut i = 0;
     while i < line.len() {
@@ -138,37 +136,57 @@ fn checksum(line: &[u8]) -> u64 {
     sum
 }
 
-// How many slots have a chain.
-fn chained(line: &[u8]) -> u64 {
-    let n = slots::fields::slot_count(line);
-    let mut left: u64 = 0;
-    let mut i = 0;
-    while i < n {
-        if slots::fields::chain(line, i) != 0 {
-            left += 1;
-        }
-        i += 1;
+// 1 where slot i has a chain, else 0.
+fn chained_at(line: &[u8], i: usize) -> u64
+    requires { ⌜ i < count (now line) ⌝ }
+    ensures { λ r. ⌜ (r ≡ hasChain (slot (slots (now (line .entry))) i)) × (r ≤ 1) ⌝ }
+{
+    if slots::fields::chain(line, i) == 0 {
+        return 0;
     }
-    left
+    1
 }
 
-fn show_line(line: &[u8]) {
-    show::text(b"checksum ");
-    show::natural(checksum(line));
-    show::text(b", chains left ");
-    show::natural(chained(line));
-    show::text(b"\n");
+// How many slots have a chain.
+fn chained(line: &[u8]) -> u64
+    ensures { λ r. ⌜ r ≡ chainedIn (slots (now (line .entry))) ⌝ }
+{
+    let n = slots::fields::slot_count(line);
+    let mut sum: u64 = 0;
+    let mut i = 0;
+    while i < n {
+        sum += chained_at(line, i);
+        i += 1;
+    }
+    sum
+}
+
+// A name and a number after it.
+fn say(name: &[u8], n: u64) {
+    show::text(name);
+    show::natural(n);
+}
+
+fn show_call(direction: u32, limit: u32) {
+    say(b"  direction ", direction as u64);
+    say(b" limit ", limit as u64);
+    show::text(b": ");
 }
 
 fn show_answer(answer: Done) {
     match answer {
         Done::Done => show::text(b"done, "),
         Done::Refused(r) => {
-            show::text(b"refused ");
-            show::natural(answers::refusal_number(r) as u64);
+            say(b"refused ", answers::refusal_number(r) as u64);
             show::text(b", ");
         }
     }
+}
+
+fn show_line(line: &[u8]) {
+    say(b"checksum ", checksum(line));
+    say(b", chains left ", chained(line));
+    show::text(b"\n");
 }
 
 // A line of 1,024 slots is filled, finished and shown.
@@ -176,11 +194,7 @@ fn run(case: Case, direction: u32, limit: u32, attachments: bool) {
     let mut space = [0u8; 24576];
     let line: &mut [u8] = &mut space;
     fill(line, case);
-    show::text(b"  direction ");
-    show::natural(direction as u64);
-    show::text(b" limit ");
-    show::natural(limit as u64);
-    show::text(b": ");
+    show_call(direction, limit);
     show_answer(gpos::finish(line, direction, limit, attachments));
     show_line(line);
 }
@@ -191,23 +205,41 @@ fn run_limits(case: Case, direction: u32) {
     run(case, direction, 64, true);
 }
 
-fn run_case(case: Case) {
-    show_case(case);
+fn run_case(name: &[u8], case: Case) {
+    show::text(name);
     run_limits(case, 0);
     run_limits(case, 1);
     run_limits(case, 2);
     run_limits(case, 3);
 }
 
+// Chains that end.
+fn run_chains() {
+    run_case(
+        b"marks on the slot before, a base each eight slots\n",
+        Case::Stacked,
+    );
+    run_case(
+        b"marks on the slot after, a base each eight slots\n",
+        Case::Ahead,
+    );
+    run_case(b"cursive glyphs on the slot after\n", Case::CursiveUp);
+    run_case(b"cursive glyphs on the slot before\n", Case::CursiveDown);
+}
+
+fn run_loops() {
+    run_case(b"loops of two cursive glyphs\n", Case::Pairs);
+    run_case(
+        b"loops of eight, marks and cursive glyphs in turn\n",
+        Case::Rings,
+    );
+    run_case(b"types 0 to 3, chains -10 to 10\n", Case::Mixed);
+    run_case(b"the same, with sums past 32 bits\n", Case::Huge);
+}
+
 fn main() {
-    run_case(Case::Stacked);
-    run_case(Case::Ahead);
-    run_case(Case::CursiveUp);
-    run_case(Case::CursiveDown);
-    run_case(Case::Pairs);
-    run_case(Case::Rings);
-    run_case(Case::Mixed);
-    run_case(Case::Huge);
+    run_chains();
+    run_loops();
     show::text(b"refused\n");
     run(Case::Mixed, 0, 65, true);
     run(Case::Mixed, 4, 64, true);

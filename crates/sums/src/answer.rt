@@ -1,16 +1,65 @@
-// What an applying call answered, and the measures of the slot it was made for, as a line.
+// What was run and what it answered, as text.
 use answers::Answer;
+use ints::big_endian::Signed;
 use slots::axis::Axis;
 use slots::fields::Measure;
+use slots::fields::get;
+ghost use Prim.Native.Nat.{_+_, _≤_, _<_};
+ghost use lib.ListN.{length};
+ghost use Rattle.slots.specs.Line.{count};
 
-fn show_measure(name: &[u8], line: &[u8], i: usize, m: Measure, a: Axis) {
-    if i < slots::fields::slot_count(line) {
-        show::text(name);
-        show::integer(slots::fields::get(line, i, m, a));
+// Prints byte i of a text, or the next number in place of a '#', and answers how many numbers are printed.
+fn print_at(text: &[u8], i: usize, numbers: [Signed; 5], printed: usize) -> usize
+    requires { ⌜ (i < length (now text)) × (printed ≤ i) ⌝ }
+    ensures { λ r. ⌜ r ≤ printed + 1 ⌝ }
+{
+    if text[i] == b'#' {
+        show::integer(numbers[printed % 5]);
+        return printed + 1;
+    }
+    let j = i + 1;
+    show::text(&text[i..j]);
+    printed
+}
+
+// Prints a text with the numbers, in turn, in place of its '#'.
+pub fn print(text: &[u8], numbers: [Signed; 5]) {
+    let mut i = 0;
+    let mut printed = 0;
+    while i < text.len() {
+        printed = print_at(text, i, numbers, printed);
+        i += 1;
     }
 }
 
-pub fn show_answer(answer: Answer, line: &[u8], i: usize) {
+// The same with one number.
+pub fn announce(text: &[u8], n: Signed) {
+    print(text, [n, 0, 0, 0, 0]);
+}
+
+fn show_applied(next: usize, line: &[u8], i: usize)
+    requires { ⌜ i < count (now line) ⌝ }
+{
+    let x_offset = get(line, i, Measure::Offset, Axis::X);
+    let y_offset = get(line, i, Measure::Offset, Axis::Y);
+    let x_advance = get(line, i, Measure::Advance, Axis::X);
+    let y_advance = get(line, i, Measure::Advance, Axis::Y);
+    print(
+        b"applied, next #, x offset #, y offset #, x advance #, y advance #\n",
+        [
+            (next % 4294967296) as u32,
+            x_offset,
+            y_offset,
+            x_advance,
+            y_advance,
+        ],
+    );
+}
+
+// What an applying call answered, and the measures of the slot it was made for, as a line.
+pub fn show_answer(answer: Answer, line: &[u8], i: usize)
+    requires { ⌜ i < count (now line) ⌝ }
+{
     match answer {
         Answer::Refused(r) => show::refused(r),
         Answer::Declined { hazards: _ } => show::text(b"declined\n"),
@@ -18,14 +67,6 @@ pub fn show_answer(answer: Answer, line: &[u8], i: usize) {
             next,
             hazards: _,
             attached: _,
-        } => {
-            show::text(b"applied, next ");
-            show::natural(next as u64);
-            show_measure(b", x offset ", line, i, Measure::Offset, Axis::X);
-            show_measure(b", y offset ", line, i, Measure::Offset, Axis::Y);
-            show_measure(b", x advance ", line, i, Measure::Advance, Axis::X);
-            show_measure(b", y advance ", line, i, Measure::Advance, Axis::Y);
-            show::text(b"\n");
-        }
+        } => show_applied(next, line, i),
     }
 }

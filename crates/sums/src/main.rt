@@ -1,87 +1,91 @@
 // Sums worked by hand in document 01, run: each line says what was done and what came of it.
-mod answer; // what a call answered
+mod answer; // texts with numbers, and what a call answered
 mod adjusting; // single adjustment
 mod attaching; // a mark on a loop, the limit of nesting
 
+use crate::answer::announce;
+use crate::answer::print;
 use slots::fields::ByteField;
-ghost use Prim.Native.Nat.{_<_};
+ghost use Prim.Native.Nat.{_<_, _≤_};
+ghost use Rattle.slots.specs.Line.{count};
 
 // P1: 3 and -3 at half size.
 fn scales() {
-    show::text(b"P1 s 500 u 1000: 3 becomes ");
-    show::integer(ints::scale::scale(3, 500, 1000));
-    show::text(b", -3 becomes ");
-    show::integer(ints::scale::scale(4294967293, 500, 1000));
-    show::text(b"\n");
+    let up = ints::scale::scale(3, 500, 1000);
+    let down = ints::scale::scale(4294967293, 500, 1000);
+    print(
+        b"P1 s 500 u 1000: 3 becomes #, -3 becomes #\n",
+        [up, down, 0, 0, 0],
+    );
 }
 
-// A line of so many zero bytes is started.
-fn start_zeros(n: usize) {
-    let mut space = io::large_buffer();
-    let all: &mut [u8] = &mut space;
-    show::text(b"start ");
-    show::natural(n as u64);
-    show::text(b" bytes: ");
-    if n <= all.len() {
-        show::done(gpos::start(&mut all[..n]));
-    }
+// A line of so many zeros is started.
+fn start_zeros(n: usize)
+    requires { ⌜ n ≤ 24600 ⌝ }
+{
+    let mut space = [0u8; 24600];
+    announce(b"start # bytes: ", n as u32);
+    show::done(gpos::start(&mut space[..n]));
 }
 
 // A line of two slots, the second with a field of one byte set, is started.
 fn start_with(name: &[u8], f: ByteField, n: u8) {
     let mut space = [0u8; 48];
     let line: &mut [u8] = &mut space;
-    if 1 < slots::fields::slot_count(line) {
-        slots::fields::set_byte(line, 1, f, n);
-    }
-    show::text(b"start with ");
-    show::text(name);
-    show::text(b" ");
-    show::natural(n as u64);
-    show::text(b": ");
+    slots::fields::set_byte(line, 1, f, n);
+    announce(name, n as u32);
     show::done(gpos::start(line));
 }
 
-fn show_attachment(line: &[u8], i: usize) {
-    if i < slots::fields::slot_count(line) {
-        show::text(b"  slot ");
-        show::natural(i as u64);
-        show::text(b" type ");
-        show::natural(slots::fields::get_byte(line, i, ByteField::AttachType) as u64);
-        show::text(b" chain ");
-        show::integer(slots::fields::chain(line, i));
-        show::text(b" glyph ");
-        show::natural(slots::fields::glyph(line, i) as u64);
-        show::text(b"\n");
-    }
-}
-
-// A glyph attached as a mark to the slot before it.
-fn attach(line: &mut [u8], i: usize, glyph: u32)
-    requires { ⌜ glyph < 65536 ⌝ }
+// The most that a field takes, and one more.
+fn start_ends(name: &[u8], f: ByteField, most: u8)
+    requires { ⌜ most < 255 ⌝ }
 {
-    if i < slots::fields::slot_count(line) {
-        slots::fields::set_glyph(line, i, glyph);
-        slots::fields::set_byte(line, i, ByteField::AttachType, 1);
-        slots::fields::set_chain(line, i, 4294967295);
-    }
+    start_with(name, f, most);
+    start_with(name, f, most + 1);
 }
 
-// A base and two marks that keep old attachments.
-fn start_old_attachments() {
-    let mut space = [0u8; 72];
-    let line: &mut [u8] = &mut space;
-    attach(line, 1, 500);
-    attach(line, 2, 501);
-    show::text(b"start with old attachments\n");
+fn start_ranges() {
+    start_ends(b"start with ligature id #: ", ByteField::LigatureId, 7);
+    start_ends(b"start with component #: ", ByteField::Component, 15);
+    start_ends(b"start with flags #: ", ByteField::Flags, 7);
+    start_with(b"start with type #: ", ByteField::AttachType, 255);
+}
+
+fn show_attachment(line: &[u8], n: u32)
+    requires { ⌜ n < count (now line) ⌝ }
+{
+    let i = n as usize;
+    let kind = slots::fields::get_byte(line, i, ByteField::AttachType) as u32;
+    let chain = slots::fields::chain(line, i);
+    let glyph = slots::fields::glyph(line, i);
+    print(
+        b"  slot # type # chain # glyph #\n",
+        [n, kind, chain, glyph, 0],
+    );
+}
+
+fn show_three(line: &[u8])
+    requires { ⌜ 2 < count (now line) ⌝ }
+{
     show_attachment(line, 0);
     show_attachment(line, 1);
     show_attachment(line, 2);
+}
+
+// A base, and marks 500 and 501 attached to the slot before.
+const OLD: [u8; 72] =
+    *b"\x00\x00\x00\x00\x00\x00\x00\x00\x00\x00\x00\x00\x00\x00\x00\x00\x00\x00\x00\x00\x00\x00\x00\x00\x01\xF4\x00\x00\x00\x01\xFF\xFF\x00\x00\x00\x00\x00\x00\x00\x00\x00\x00\x00\x00\x00\x00\x00\x00\x01\xF5\x00\x00\x00\x01\xFF\xFF\x00\x00\x00\x00\x00\x00\x00\x00\x00\x00\x00\x00\x00\x00\x00\x00";
+
+// Starting takes old attachments off.
+fn start_old_attachments() {
+    let mut space = OLD;
+    let line: &mut [u8] = &mut space;
+    show::text(b"start with old attachments\n");
+    show_three(line);
     show::text(b"  ");
     show::done(gpos::start(line));
-    show_attachment(line, 0);
-    show_attachment(line, 1);
-    show_attachment(line, 2);
+    show_three(line);
 }
 
 fn main() {
@@ -91,14 +95,11 @@ fn main() {
     start_zeros(25);
     start_zeros(24576);
     start_zeros(24600);
-    start_with(b"ligature id", ByteField::LigatureId, 7);
-    start_with(b"ligature id", ByteField::LigatureId, 8);
-    start_with(b"component", ByteField::Component, 15);
-    start_with(b"component", ByteField::Component, 16);
-    start_with(b"flags", ByteField::Flags, 7);
-    start_with(b"flags", ByteField::Flags, 8);
-    start_with(b"type", ByteField::AttachType, 255);
+    start_ranges();
     start_old_attachments();
     adjusting::run();
-    attaching::run();
+    attaching::attach_to_loop(1);
+    attaching::attach_to_loop(2);
+    attaching::finish_by(64);
+    attaching::finish_by(65);
 }

@@ -1,13 +1,25 @@
--- The line keeps its length, and so its count. Assumes nothing.
-use borrow.Author.Needs.{needs}
-use mathlib.Core.Path.{_≡_}
-use Prim.Native.Nat.{_-_}
+-- After i turns the first i slots are filled; the line keeps its length, and so its count. Assumes nothing.
+use mathlib.Core.Path.{_≡_, refl, ap, _∙_}
+use mathlib.Core.List.{List}
+use Prim.Native.Nat.{ℕ, _+_, _-_, _≤_}
+use native.Mathlib.Numerals.{add-one}
+use native.Mathlib.Omega.{arith}
 use lib.ListN.{length}
+use Rattle.slots.specs.Slot.{Slot}
+use Rattle.slots.specs.Line.{count, slots, update}
+use Rattle.finish_run.specs.Cases.{filledSlot, filledTo}
+use Rattle.finish_run.specs.declared.Case.{Case}
+use borrow.Author.Needs.{needs}
 use Rattle.finish_run.proofs.fill.Statement.{statement}
 use Rattle.finish_run.proofs.fill.Tie as tie
 
+-- one turn
+one-more : (c : Case) (i : ℕ) (ss : List Slot) {ss₁ ss₂ : List Slot} → ss₁ ≡ filledTo c i ss → ss₂ ≡ update i (filledSlot c i) ss₁ → ss₂ ≡ filledTo c (i + 1) ss
+unfolding filledTo
+one-more c i ss before turn = rw add-one (turn ∙ ap (update i (filledSlot c i)) before)
+
 abbrev Inv-loop : tie.InvT-loop
-Inv-loop line₀ case n i₀ line i = length line ≡ length line₀
+Inv-loop line₀ case n i₀ line i = (length line ≡ length line₀) × (i ≤ n) × (slots line ≡ filledTo case i (slots line₀))
 
 abbrev μ-loop : tie.MeasureT-loop
 μ-loop line₀ case n i₀ line i = n - i
@@ -16,7 +28,8 @@ slot-count-requires : tie.Need-slot-count-requires Inv-loop μ-loop
 slot-count-requires c κs = search needs
 
 loop-holds : tie.Need-loop-holds Inv-loop μ-loop
-loop-holds c = search needs
+unfolding filledTo
+loop-holds c = (refl, omega arith, refl)
 
 fill-slot-requires : tie.Need-fill-slot-requires Inv-loop μ-loop
 fill-slot-requires c κs = search needs
@@ -28,13 +41,20 @@ loop-less : tie.Need-loop-less Inv-loop μ-loop
 loop-less c = search needs
 
 loop-again : tie.Need-loop-again Inv-loop μ-loop
-loop-again c = search needs
+loop-again c =
+    let a = c .before .before .before .before .before .before .before .before .before .args in
+    let l = c .before .before .before .before .before .loop in
+    (search needs, omega arith, one-more (a .case) (l .i) (slots (a .line .now)) (l .inv .2) (c .before .before .fill-slot .ensures))
 
 same-length : tie.Need-same-length Inv-loop μ-loop
 same-length c = search needs
 
 returns : tie.Need-returns Inv-loop μ-loop
-returns c = search needs
+returns c =
+    let a = c .before .before .before .before .before .args in
+    let l = c .before .loop in
+    let all : l .i ≡ count (a .line .now) = omega arith in
+    l .inv .2 ∙ ap (λ (n : ℕ). filledTo (a .case) n (slots (a .line .now))) all
 
 pub fill-spec : {M : Type 1} → statement M
 fill-spec =

@@ -1,6 +1,6 @@
 -- Every end up to the length is inside. Assumes nothing.
-use Prim.Native.Nat.{_+_, _-_, _≤_}
-use mathlib.Core.Path.{sym}
+use mathlib.Core.Path.{_≡_, sym}
+use Prim.Native.Nat.{_-_, _≤_}
 use native.Mathlib.Omega.{arith}
 use lib.ListN.{length}
 use lib.Seq.{length-take-le}
@@ -9,34 +9,25 @@ use Rattle.sums.proofs.adjusting.cut.Statement.{statement}
 use Rattle.sums.proofs.adjusting.cut.Tie as tie
 
 abbrev Inv-loop : tie.InvT-loop
-Inv-loop name t n₀ t4 t5 n = n ≤ length t + 1
+Inv-loop t n₀ t6 n = (length t ≡ 22) × (n ≤ 23)
 
 abbrev μ-loop : tie.MeasureT-loop
-μ-loop name t n₀ t4 t5 n = length t + 1 - n
+μ-loop t n₀ t6 n = 23 - n
+
+slice-aggregate-t : tie.Need-slice-aggregate-t Inv-loop μ-loop
+slice-aggregate-t c = search needs
 
 loop-holds : tie.Need-loop-holds Inv-loop μ-loop
 loop-holds c = search needs
 
-text-requires : tie.Need-text-requires Inv-loop μ-loop
-text-requires c κs = search needs
-
-slice-aggregate-text : tie.Need-slice-aggregate-text Inv-loop μ-loop
-slice-aggregate-text c = search needs
-
-text-requires-2 : tie.Need-text-requires-2 Inv-loop μ-loop
-text-requires-2 c κs = search needs
-
-natural-requires : tie.Need-natural-requires Inv-loop μ-loop
-natural-requires c κs = search needs
-
-slice-aggregate-text-2 : tie.Need-slice-aggregate-text-2 Inv-loop μ-loop
-slice-aggregate-text-2 c = search needs
-
-text-requires-3 : tie.Need-text-requires-3 Inv-loop μ-loop
-text-requires-3 c κs = search needs
+cast-end : tie.Need-cast-end Inv-loop μ-loop
+cast-end c = search needs
 
 slice-aggregate-adjust : tie.Need-slice-aggregate-adjust Inv-loop μ-loop
-slice-aggregate-adjust c = sym (length-take-le _ _ (omega arith))
+slice-aggregate-adjust c = search needs
+
+slice-aggregate-adjust-2 : tie.Need-slice-aggregate-adjust-2 Inv-loop μ-loop
+slice-aggregate-adjust-2 c = sym (length-take-le _ _ (omega arith))
 
 adjust-requires : tie.Need-adjust-requires Inv-loop μ-loop
 adjust-requires c κs = search needs
@@ -59,14 +50,11 @@ cut-spec =
     (tie.spec
     Inv-loop
     μ-loop
+    slice-aggregate-t
     loop-holds
-    text-requires
-    slice-aggregate-text
-    text-requires-2
-    natural-requires
-    slice-aggregate-text-2
-    text-requires-3
+    cast-end
     slice-aggregate-adjust
+    slice-aggregate-adjust-2
     adjust-requires
     add-n
     loop-less
