@@ -18,17 +18,24 @@ use Rattle.answers.specs.Said.{Range, break, concat, Said, applied, declined}
 use Rattle.answers.specs.declared.Neighbour.{Neighbour}
 use Rattle.answers.specs.declared.Neighbour.the-variants.{At as Named, Missing}
 
+-- the fields of the header
+abbrev pub coverageOffset : List ℕ → ℕ
+coverageOffset t = natAt 2 t 2
+
+abbrev pub entryExitCount : List ℕ → ℕ
+entryExitCount t = natAt 2 t 4
+
 -- what refusal 6 asks of the subtable: not too long, header whole, format known, coverage good
 abbrev pub cursiveGood : List ℕ → Bool
-cursiveGood t = leb (length t) 65536 && (leb 6 (length t) && (eqb (natAt 2 t 0) 1 && coverageGoodAt t (natAt 2 t 2)))
+cursiveGood t = leb (length t) 65536 && (leb 6 (length t) && (eqb (natAt 2 t 0) 1 && coverageGoodAt t (coverageOffset t)))
 
 -- the coverage index of a glyph
 abbrev pub indexOf : List ℕ → ℕ → Covered
-indexOf t g = coverageAt t (natAt 2 t 2) g
+indexOf t g = coverageAt t (coverageOffset t) g
 
 -- the anchors of a coverage index: offset 2k of the records is the entry's, offset 2k + 1 the exit's
 abbrev pub recordAnchor : List ℕ → ℕ → ℕ → Option Spot
-recordAnchor t k side = anchorOf (childOf t 6 (2 * natAt 2 t 4) (2 * k + side))
+recordAnchor t k side = anchorOf (childOf t 6 (2 * entryExitCount t) (2 * k + side))
 
 abbrev pub entryOf : List ℕ → ℕ → Option Spot
 entryOf t k = recordAnchor t k 0

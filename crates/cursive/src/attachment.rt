@@ -29,7 +29,7 @@ ghost use Rattle.answers.specs.Outcome.{Effect};
 ghost use Rattle.answers.specs.Said.{said};
 ghost use Rattle.cursive.specs.Attachment.{crossed, ended, joinedAt, planned, previousJoined, pulled, rightToLeft, scaledAt, separatedBy, thisJoined, tied};
 ghost use Rattle.cursive.specs.CursivePos.{cursiveGood, planOf, planSaid};
-ghost use Rattle.cursive.specs.Decision.{Before};
+ghost use Rattle.cursive.specs.Meant.{Before};
 
 // A coordinate of an anchor, scaled.
 fn scaled_at(p: Point, a: Axis, s: u32, u: u32) -> Signed

@@ -13,7 +13,7 @@ ghost use Prim.Native.Nat.{_+_, _<_};
 ghost use Rattle.slots.specs.Line.{count, slots};
 ghost use Rattle.tables.specs.Anchor.{AnchorNear, Near16, spot, spotOf};
 ghost use Rattle.cursive.specs.CursivePos.{cursiveGood, fromEntry, fromExit, fromNeighbour, fromPrevious, indexOf, planOf, recordAnchor};
-ghost use Rattle.cursive.specs.Decision.{Before, meant, Sound};
+ghost use Rattle.cursive.specs.Meant.{Before, meant, Sound};
 
 // Nothing is to be done, but a hazard to report; or the previous slot is to be joined, by its exit, to this one, by its entry.
 pub enum Decision {

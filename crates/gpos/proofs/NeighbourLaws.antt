@@ -7,8 +7,8 @@ use lib.Dec.{leb}
 use Rattle.ints.proofs.TestLaws.{or-false}
 use Rattle.answers.specs.declared.Neighbour.{Neighbour}
 use Rattle.answers.specs.declared.Neighbour.the-variants.{At, Missing}
-use Rattle.pair.specs.Codes.{After}
-use Rattle.cursive.specs.Decision.{Before}
+use Rattle.pair.specs.Meant.{After}
+use Rattle.cursive.specs.Meant.{Before}
 use Rattle.gpos.specs.Neighbours.{badAfter, badBefore}
 
 -- where neither the index nor the rest of the test is bad, the index is in the line

@@ -22,7 +22,8 @@ use Rattle.tables.specs.Anchor.{Spot}
 use Rattle.tables.specs.Spans.{ascends, firstHolding, spanAt, spansFrom}
 use Rattle.answers.specs.Said.{break, concat, applied, declined, refused}
 use Rattle.marks.specs.Attachment.{planned}
-use Rattle.marks.specs.MarkPos.{anchorsFor, baseIndex, componentIndex, markIndex, marksGood}
+use Rattle.marks.specs.Component.{componentIndex}
+use Rattle.marks.specs.MarkPos.{anchorsFor, baseIndex, markIndex, marksGood}
 use Rattle.marks.specs.Plan.{endless, fits, hang, Plan, planOf, planSaid, stop}
 use Rattle.marks.specs.Search.{accepted, nearest, stopsAt}
 use Rattle.marks.specs.Walk.{crossWalk, NeverEnds, walkIn}

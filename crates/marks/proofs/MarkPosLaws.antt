@@ -20,7 +20,8 @@ use Rattle.tables.specs.Part.{childOf, offsetThere, tableAt}
 use Rattle.tables.specs.declared.anchor_rows.Rows.{Rows}
 use Rattle.tables.specs.declared.anchor_rows.Rows.the-variants.{Of, Absent}
 use Rattle.tables.proofs.HeaderLaws.{one-format}
-use Rattle.marks.specs.MarkPos.{missing, empty, anchorsFor, classCount, componentIndex, markAt, marksGood, noComponent, rowFor, rowless, rowTable, withMark, withRows}
+use Rattle.marks.specs.Component.{componentIndex}
+use Rattle.marks.specs.MarkPos.{missing, empty, anchorsFor, markAt, markClassCount, marksGood, noComponent, rowFor, rowless, rowTable, withMark, withRows}
 use Rattle.marks.specs.declared.subtable.Kind.{Kind}
 use Rattle.marks.specs.declared.subtable.Kind.the-variants.{Base, Ligature}
 
@@ -113,7 +114,7 @@ module _ (kind : Kind) (t : List ℕ) (k m : ℕ) (mark base : Slot) (rows : Lis
   anchors-rowless n e z = sym (by-rows ∙ ap (withRows kind t k m mark base) (e ∙ ap Of z) ∙ go kind (markAt t m))
     where
       go : (x : Kind) (o : Option MarkSpot)
-          → (if noComponent x 0 then empty else withMark (rowTable x t k) 0 (classCount t) (rowFor x k 0 mark base) o) ≡ rowless x
+          → (if noComponent x 0 then empty else withMark (rowTable x t k) 0 (markClassCount t) (rowFor x k 0 mark base) o) ≡ rowless x
       go Base (some a) = rw (le-ltb k 0 (omega arith))
       go Base none = refl
       go Ligature o = refl
@@ -125,12 +126,12 @@ module _ (kind : Kind) (t : List ℕ) (k m : ℕ) (mark base : Slot) (rows : Lis
       let there : o ≡ markAt t m = is-o ∙ ap (λ (l : List ℕ). markOf l m) (is-marks ∙ ap (tableAt t) read-off) in
       ap (λ (l : List ℕ). withMark l n columns row o) is
       ∙ ap (λ (c : ℕ). withMark (rowTable kind t k) n c row o) read
-      ∙ ap (λ (r : ℕ). withMark (rowTable kind t k) n (classCount t) r o) is-row
-      ∙ ap (withMark (rowTable kind t k) n (classCount t) (rowFor kind k n mark base)) there
+      ∙ ap (λ (r : ℕ). withMark (rowTable kind t k) n (markClassCount t) r o) is-row
+      ∙ ap (withMark (rowTable kind t k) n (markClassCount t) (rowFor kind k n mark base)) there
       ∙ sym (by-rows ∙ ap (withRows kind t k m mark base) e ∙ go kind)
     where
       go : (x : Kind)
-          → (if noComponent x n then empty else withMark (rowTable x t k) n (classCount t) (rowFor x k n mark base) (markAt t m))
-          ≡ withMark (rowTable x t k) n (classCount t) (rowFor x k n mark base) (markAt t m)
+          → (if noComponent x n then empty else withMark (rowTable x t k) n (markClassCount t) (rowFor x k n mark base) (markAt t m))
+          ≡ withMark (rowTable x t k) n (markClassCount t) (rowFor x k n mark base) (markAt t m)
       go Base = refl
       go Ligature = rw (ne-eqb n 0 z)

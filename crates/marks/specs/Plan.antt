@@ -5,7 +5,6 @@ use mathlib.Core.Option.{Option, some, none}
 use Prim.Native.Nat.{ℕ, _+_, _-_}
 use lib.Dec.{eqb, leb}
 use lib.IntN.{ℤ}
-use Rattle.ints.specs.BigEndian.{natAt}
 use Rattle.ints.specs.Choice.{if_then_else_}
 use Rattle.slots.specs.Slot.{Slot}
 use Rattle.slots.specs.Line.{slot}
@@ -14,7 +13,7 @@ use Rattle.tables.specs.Anchor.{Spot}
 use Rattle.tables.specs.declared.coverage.Covered.{Covered}
 use Rattle.tables.specs.declared.coverage.Covered.the-variants.{At, Not}
 use Rattle.answers.specs.Said.{Range, break, concat, Said, applied, declined, refused}
-use Rattle.marks.specs.MarkPos.{Anchors, both, missing, empty, anchorsFor, baseIndex, markIndex}
+use Rattle.marks.specs.MarkPos.{Anchors, both, missing, empty, anchorsFor, baseCoverageOffset, baseIndex, markIndex}
 use Rattle.marks.specs.Search.{foundFor}
 use Rattle.marks.specs.Walk.{crossWalk}
 use Rattle.marks.specs.declared.subtable.Kind.{Kind}
@@ -47,7 +46,7 @@ withSearch kind a t ss idx m none = stop (concat 0 (idx + 1) ∷ [])
 
 -- once the mark is known to be covered: without a base coverage nothing is searched
 abbrev pub withCovered : Kind → Axis → List ℕ → List Slot → ℕ → Covered → Plan
-withCovered kind a t ss idx (At m) = if eqb (natAt 2 t 4) 0 then stop [] else withSearch kind a t ss idx m (foundFor kind t ss idx)
+withCovered kind a t ss idx (At m) = if eqb (baseCoverageOffset t) 0 then stop [] else withSearch kind a t ss idx m (foundFor kind t ss idx)
 withCovered kind a t ss idx Not = stop []
 
 -- the plan for the mark in slot idx; a is the cross axis

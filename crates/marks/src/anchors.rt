@@ -1,7 +1,7 @@
 // The anchors by which a mark attaches: its own, from the mark array, and the base's, from a row for its class.
+use crate::component::component_index;
 use crate::subtable::Kind;
 use ints::big_endian::read_u16;
-use slots::fields::ByteField;
 use tables::anchor::Anchor;
 use tables::anchor::Point;
 use tables::anchor_rows::Rows;
@@ -14,8 +14,8 @@ ghost use Prim.Native.Nat.{_<_};
 ghost use Rattle.slots.specs.Line.{count, slot, slots};
 ghost use Rattle.tables.specs.Anchor.{AnchorNear, Near16, spot, spotOf};
 ghost use Rattle.tables.specs.MarkArray.{MarkNear, markSpot};
-ghost use Rattle.marks.specs.Codes.{anchorsOf, FoundNear};
-ghost use Rattle.marks.specs.MarkPos.{anchorsFor, componentIndex, marksGood, rowFor, rowless, rowTable, withBase, withMark};
+ghost use Rattle.marks.specs.Meant.{anchorsOf, FoundNear};
+ghost use Rattle.marks.specs.MarkPos.{anchorsFor, marksGood, rowFor, rowless, rowTable, withBase, withMark};
 
 pub enum Found {
     // The base's anchor, and the mark's.
@@ -40,28 +40,6 @@ fn row_table<'a>(t: &'a [u8], kind: Kind, k: usize) -> &'a [u8]
             child_of(array, 2, read_u16(array, 0) as usize, k)
         }
     }
-}
-
-// A ligature's component for the mark in slot idx, counted from 0: its own, or the last.
-fn component_index(line: &[u8], n: usize, idx: usize, b: usize) -> usize
-    requires { ⌜ (idx < count (now line)) × (b < count (now line)) × (0 < n) ⌝ }
-    ensures { λ r. ⌜ (r ≡ componentIndex n (slot (slots (now (line .entry))) idx) (slot (slots (now (line .entry))) b)) × (r < n) ⌝ }
-{
-    let id = slots::fields::get_byte(line, b, ByteField::LigatureId);
-    if id == 0 {
-        return n - 1;
-    }
-    if id != slots::fields::get_byte(line, idx, ByteField::LigatureId) {
-        return n - 1;
-    }
-    let component = slots::fields::get_byte(line, idx, ByteField::Component) as usize;
-    if component == 0 {
-        return n - 1;
-    }
-    if n <= component {
-        return n - 1;
-    }
-    component - 1
 }
 
 // The row of base k, or of the mark's component in a ligature of n.

@@ -20,7 +20,7 @@ ghost use mathlib.Core.Path.{_≡_};
 ghost use Prim.Native.Nat.{_<_};
 ghost use Rattle.slots.specs.Line.{count, slots};
 ghost use Rattle.tables.specs.Anchor.{Near16, spotOf};
-ghost use Rattle.marks.specs.Codes.{anchorsOf, Before, FoundNear, meant, placeOf, Sound, walkOf};
+ghost use Rattle.marks.specs.Meant.{anchorsOf, Before, FoundNear, meant, placeOf, Sound, walkOf};
 ghost use Rattle.marks.specs.MarkPos.{marksGood};
 ghost use Rattle.marks.specs.Plan.{planOf, withAnchors, withFound, withSearch, withWalk};
 

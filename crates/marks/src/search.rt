@@ -8,7 +8,7 @@ ghost use mathlib.Core.Bool.{true};
 ghost use mathlib.Core.Path.{_≡_};
 ghost use Prim.Native.Nat.{_-_, _≤_, _<_};
 ghost use Rattle.slots.specs.Line.{count, slot, slots};
-ghost use Rattle.marks.specs.Codes.{Before, placeOf};
+ghost use Rattle.marks.specs.Meant.{Before, placeOf};
 ghost use Rattle.marks.specs.MarkPos.{baseIndex, marksGood};
 ghost use Rattle.marks.specs.Search.{accepted, foundFor, goesOn, isCovered, isFirst, stopsAt};
 

@@ -8,7 +8,7 @@ use slots::parent::Parent;
 ghost use mathlib.Core.Path.{_≡_};
 ghost use Prim.Native.Nat.{_<_};
 ghost use Rattle.slots.specs.Line.{count, slots};
-ghost use Rattle.marks.specs.Codes.{walkOf};
+ghost use Rattle.marks.specs.Meant.{walkOf};
 ghost use Rattle.marks.specs.Walk.{climb, crossWalk};
 
 // The sum of the cross offsets, or that the walk never ends.

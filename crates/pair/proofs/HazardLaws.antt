@@ -16,7 +16,7 @@ use Rattle.answers.specs.Hazards.{FewHazards}
 use Rattle.answers.specs.declared.Neighbour.{Neighbour}
 use Rattle.answers.specs.declared.Neighbour.the-variants.{At as Named, Missing}
 use Rattle.pair.specs.Adjustment.{eitherWorked, hasSecond, pairSaid, planSaid}
-use Rattle.pair.specs.PairPos.{classRecord, firstClass, firstClasses, firstIndex, pairLength, pairSet, secondClass, secondClasses}
+use Rattle.pair.specs.PairPos.{classRecord, firstClass, class1Count, firstIndex, pairLength, pairSet, secondClass, class2Count}
 use Rattle.pair.specs.PairSet.{probe}
 use Rattle.pair.specs.Plan.{Plan, adjust, fromClasses, fromCovered, fromNeighbour, fromProbe, fromSecond, fromSet, missed, planOf, stop}
 use Rattle.pair.specs.declared.pair_set.Probe.{Probe}
@@ -44,7 +44,7 @@ module _ (d : Direction) (t : List ℕ) (ss : List Slot) (idx : ℕ) where
   sets second g set = either (ltb (length set) 2) _ _ (omega arith) (probes second set (probe set (2 + pairLength t) g))
 
   classes : (second c₁ c₂ : ℕ) → FewHazards (planSaid d t idx (fromClasses t idx second c₁ c₂))
-  classes second c₁ c₂ = either (ltb c₁ (firstClasses t) && (ltb c₂ (secondClasses t) && leb (classRecord t c₁ c₂ + pairLength t) (length t))) _ _
+  classes second c₁ c₂ = either (ltb c₁ (class1Count t) && (ltb c₂ (class2Count t) && leb (classRecord t c₁ c₂ + pairLength t) (length t))) _ _
       (adjusts t (classRecord t c₁ c₂) second) (omega arith)
 
   neighbour : (k : ℕ) (n : Neighbour) → FewHazards (planSaid d t idx (fromNeighbour t ss idx k n))

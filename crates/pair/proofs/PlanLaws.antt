@@ -19,7 +19,7 @@ use Rattle.tables.specs.declared.coverage.Covered.the-variants.{At, Not}
 use Rattle.answers.specs.Said.{Range, concat}
 use Rattle.answers.specs.declared.Neighbour.{Neighbour}
 use Rattle.answers.specs.declared.Neighbour.the-variants.{At as Named, Missing}
-use Rattle.pair.specs.PairPos.{firstClasses, firstIndex, pairLength, pairSet, secondClasses}
+use Rattle.pair.specs.PairPos.{class1Count, firstIndex, pairLength, pairSet, class2Count}
 use Rattle.pair.specs.PairSet.{probe}
 use Rattle.pair.specs.Plan.{Plan, adjust, fromClasses, fromCovered, fromNeighbour, fromProbe, fromSecond, fromSet, missed, planOf, stop}
 use Rattle.pair.specs.declared.pair_set.Probe.{Probe}
@@ -60,7 +60,7 @@ module _ (t : List ℕ) (idx second g off k : ℕ) (set : List ℕ) (e : set ≡
       ∙ sym (rw (← s, ← e) (simp (le-ltb (length set) 2 h)))
 
 -- ---- format 2: a class outside its count, a record that is cut, and one that is there
-module _ (t : List ℕ) (idx second c₁ c₂ n₁ n₂ : ℕ) (e₁ : n₁ ≡ firstClasses t) (e₂ : n₂ ≡ secondClasses t) where
+module _ (t : List ℕ) (idx second c₁ c₂ n₁ n₂ : ℕ) (e₁ : n₁ ≡ class1Count t) (e₂ : n₂ ≡ class2Count t) where
   pub first-outside : n₁ ≤ c₁ → missed idx second ≡ fromClasses t idx second c₁ c₂
   first-outside h = rw (← e₁) (simp (le-ltb c₁ n₁ h))
 

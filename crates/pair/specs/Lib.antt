@@ -2,5 +2,4 @@ pub mod PairPos  -- the subtable
 pub mod PairSet  -- the pair set, and the probe
 pub mod Plan  -- which record a pair has
 pub mod Adjustment  -- applying it
-pub mod Codes  -- what code's decision stands for
-pub mod ProbeSmall  -- the bound of what a probe finds
+pub mod Meant  -- what code's values stand for

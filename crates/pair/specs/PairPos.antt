@@ -16,26 +16,46 @@ use Rattle.tables.specs.Part.{childOf}
 use Rattle.tables.specs.declared.coverage.Covered.{Covered}
 use Rattle.values.specs.Format.{recordLength}
 
--- the two value formats
+-- the fields of the header that both formats have
+abbrev pub coverageOffset : List ℕ → ℕ
+coverageOffset t = natAt 2 t 2
+
 abbrev pub format1 : List ℕ → ℕ
 format1 t = natAt 2 t 4
 
 abbrev pub format2 : List ℕ → ℕ
 format2 t = natAt 2 t 6
 
+-- that of format 1
+abbrev pub pairSetCount : List ℕ → ℕ
+pairSetCount t = natAt 2 t 8
+
+-- those of format 2
+abbrev pub classDef1Offset : List ℕ → ℕ
+classDef1Offset t = natAt 2 t 8
+
+abbrev pub classDef2Offset : List ℕ → ℕ
+classDef2Offset t = natAt 2 t 10
+
+abbrev pub class1Count : List ℕ → ℕ
+class1Count t = natAt 2 t 12
+
+abbrev pub class2Count : List ℕ → ℕ
+class2Count t = natAt 2 t 14
+
 -- the class lists of format 2 are good
 unfoldable pub classesGood : List ℕ → Bool
-classesGood t = if eqb (posFormat t) 1 then true else classGoodAt t (natAt 2 t 8) && classGoodAt t (natAt 2 t 10)
+classesGood t = if eqb (posFormat t) 1 then true else classGoodAt t (classDef1Offset t) && classGoodAt t (classDef2Offset t)
 
 -- what refusal 6 asks of the subtable: not too long, a header of 10 bytes in format 1 and 16 in format 2, value formats known, coverage and class lists good
 unfoldable pub pairGood : List ℕ → Bool
 pairGood t =
     leb (length t) 65536
-    && (headerGood 10 16 t && (leb (format1 t) 255 && (leb (format2 t) 255 && (coverageGoodAt t (natAt 2 t 2) && classesGood t))))
+    && (headerGood 10 16 t && (leb (format1 t) 255 && (leb (format2 t) 255 && (coverageGoodAt t (coverageOffset t) && classesGood t))))
 
 -- the coverage index of a first glyph
 abbrev pub firstIndex : List ℕ → ℕ → Covered
-firstIndex t g = coverageAt t (natAt 2 t 2) g
+firstIndex t g = coverageAt t (coverageOffset t) g
 
 -- the bytes of the two value records together
 abbrev pub pairLength : List ℕ → ℕ
@@ -43,21 +63,15 @@ pairLength t = recordLength (format1 t) + recordLength (format2 t)
 
 -- format 1: the pair set of a coverage index
 abbrev pub pairSet : List ℕ → ℕ → List ℕ
-pairSet t k = childOf t 10 (natAt 2 t 8) k
+pairSet t k = childOf t 10 (pairSetCount t) k
 
--- format 2: the classes of the two glyphs, and how many there are of each
+-- format 2: the classes of the two glyphs
 abbrev pub firstClass : List ℕ → ℕ → ℕ
-firstClass t g = classAt t (natAt 2 t 8) g
+firstClass t g = classAt t (classDef1Offset t) g
 
 abbrev pub secondClass : List ℕ → ℕ → ℕ
-secondClass t g = classAt t (natAt 2 t 10) g
-
-abbrev pub firstClasses : List ℕ → ℕ
-firstClasses t = natAt 2 t 12
-
-abbrev pub secondClasses : List ℕ → ℕ
-secondClasses t = natAt 2 t 14
+secondClass t g = classAt t (classDef2Offset t) g
 
 -- where the record of two classes is
 abbrev pub classRecord : List ℕ → ℕ → ℕ → ℕ
-classRecord t c₁ c₂ = 16 + pairLength t * (c₁ * secondClasses t + c₂)
+classRecord t c₁ c₂ = 16 + pairLength t * (c₁ * class2Count t + c₂)

@@ -12,11 +12,11 @@ use Rattle.pair.specs.declared.pair_set.Probe.{Probe}
 use Rattle.pair.specs.declared.pair_set.Probe.the-variants.{Found, Nothing, Cut}
 
 -- where record k starts, in a set whose records have `size` bytes, and its second glyph
-abbrev pub recordAt : ℕ → ℕ → ℕ
-recordAt size k = 2 + size * k
+abbrev pub recordPlace : ℕ → ℕ → ℕ
+recordPlace size k = 2 + size * k
 
 abbrev pub secondGlyph : List ℕ → ℕ → ℕ → ℕ
-secondGlyph set size k = natAt 2 set (recordAt size k)
+secondGlyph set size k = natAt 2 set (recordPlace size k)
 
 -- document 01's middle
 abbrev pub middle : ℕ → ℕ → ℕ
@@ -28,10 +28,10 @@ unfoldable pub probeIn : ℕ → List ℕ → ℕ → ℕ → ℕ → ℕ → Pr
 probeIn zero set size g lo hi = Nothing
 probeIn (suc n) set size g lo hi =
     if ltb lo hi then
-    (if ltb (length set) (recordAt size (middle lo hi) + 2) then Cut
+    (if ltb (length set) (recordPlace size (middle lo hi) + 2) then Cut
     else (if ltb g (secondGlyph set size (middle lo hi)) then probeIn n set size g lo (middle lo hi)
     else (if ltb (secondGlyph set size (middle lo hi)) g then probeIn n set size g (middle lo hi + 1) hi
-    else Found (recordAt size (middle lo hi)))))
+    else Found (recordPlace size (middle lo hi)))))
     else Nothing
 
 -- the whole set is probed, from 0 up to the count: no more steps than records
@@ -42,7 +42,7 @@ probe set size g = probeIn (natAt 2 set 0) set size g 0 (natAt 2 set 0)
 -- the first of the records from k on, n of them, that has the second glyph
 unfoldable pub firstWith : List ℕ → ℕ → ℕ → ℕ → ℕ → Option ℕ
 firstWith set size g k zero = none
-firstWith set size g k (suc n) = if eqb (secondGlyph set size k) g then some (recordAt size k) else firstWith set size g (suc k) n
+firstWith set size g k (suc n) = if eqb (secondGlyph set size k) g then some (recordPlace size k) else firstWith set size g (suc k) n
 
 abbrev pub plain : List ℕ → ℕ → ℕ → Option ℕ
 plain set size g = firstWith set size g 0 (natAt 2 set 0)

@@ -13,7 +13,7 @@ use Rattle.tables.specs.declared.coverage.Covered.the-variants.{At, Not}
 use Rattle.answers.specs.Said.{Range, concat}
 use Rattle.answers.specs.declared.Neighbour.{Neighbour}
 use Rattle.answers.specs.declared.Neighbour.the-variants.{At as Named, Missing}
-use Rattle.pair.specs.PairPos.{classRecord, firstClass, firstClasses, firstIndex, pairLength, pairSet, secondClass, secondClasses}
+use Rattle.pair.specs.PairPos.{classRecord, firstClass, class1Count, firstIndex, pairLength, pairSet, secondClass, class2Count}
 use Rattle.pair.specs.PairSet.{probe}
 use Rattle.pair.specs.declared.pair_set.Probe.{Probe}
 use Rattle.pair.specs.declared.pair_set.Probe.the-variants.{Found, Nothing, Cut}
@@ -40,7 +40,7 @@ fromSet t idx second g set = if ltb (length set) 2 then stop [] else fromProbe i
 -- format 2: the record of the two classes, if both are below their counts and it is wholly inside
 abbrev pub fromClasses : List ℕ → ℕ → ℕ → ℕ → ℕ → Plan
 fromClasses t idx second c₁ c₂ =
-    if ltb c₁ (firstClasses t) && (ltb c₂ (secondClasses t) && leb (classRecord t c₁ c₂ + pairLength t) (length t))
+    if ltb c₁ (class1Count t) && (ltb c₂ (class2Count t) && leb (classRecord t c₁ c₂ + pairLength t) (length t))
     then adjust t (classRecord t c₁ c₂) second else missed idx second
 
 -- the pair of slot idx, covered as k, and the slot `second`

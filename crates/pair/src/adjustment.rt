@@ -20,7 +20,7 @@ ghost use Rattle.slots.specs.Line.{count, slots};
 ghost use Rattle.answers.specs.Outcome.{Effect};
 ghost use Rattle.answers.specs.Said.{range, said};
 ghost use Rattle.pair.specs.Adjustment.{eitherWorked, pairHazard, pairSaid, planned, planSaid};
-ghost use Rattle.pair.specs.Codes.{After};
+ghost use Rattle.pair.specs.Meant.{After};
 ghost use Rattle.pair.specs.PairPos.{pairGood};
 ghost use Rattle.pair.specs.Plan.{adjust, planOf};
 

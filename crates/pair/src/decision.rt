@@ -15,10 +15,10 @@ ghost use lib.ListN.{drop, length};
 ghost use Rattle.slots.specs.Line.{count, slots};
 ghost use Rattle.tables.specs.Header.{posFormat};
 ghost use Rattle.tables.specs.Part.{tableAt};
-ghost use Rattle.pair.specs.Codes.{After, meant, Sound};
+ghost use Rattle.pair.specs.Meant.{After, meant, Sound};
 ghost use Rattle.pair.specs.PairPos.{pairGood, pairSet};
 ghost use Rattle.pair.specs.Plan.{fromClasses, fromNeighbour, fromProbe, fromSecond, fromSet, planOf};
-ghost use Rattle.pair.specs.ProbeSmall.{ProbeSmall};
+ghost use Rattle.pair.specs.Meant.{ProbeSmall};
 
 pub enum Decision {
     // Nothing is to be done, but a hazard to report.

@@ -4,7 +4,7 @@ ghost use mathlib.Core.Path.{_≡_};
 ghost use Prim.Native.Nat.{_≤_, _<_};
 ghost use lib.ListN.{length};
 ghost use Rattle.pair.specs.PairSet.{probe};
-ghost use Rattle.pair.specs.ProbeSmall.{ProbeSmall};
+ghost use Rattle.pair.specs.Meant.{ProbeSmall};
 
 // Where the record of a second glyph starts, or why there is none.
 pub enum Probe {

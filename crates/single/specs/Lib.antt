@@ -1,2 +1,2 @@
 pub mod SinglePos  -- the subtable, and adjusting by it
-pub mod Place  -- what code's place stands for
+pub mod Meant  -- what code's values stand for

@@ -7,7 +7,7 @@ ghost use mathlib.Core.Path.{_≡_};
 ghost use Prim.Native.Nat.{_<_};
 ghost use Rattle.tables.specs.declared.coverage.Covered.the-variants.{At};
 ghost use Rattle.single.specs.SinglePos.{placeFor, recordPlace, singleGood};
-ghost use Rattle.single.specs.Place.{placeOf, PlaceSmall};
+ghost use Rattle.single.specs.Meant.{placeOf, PlaceSmall};
 
 // Where a glyph's value record is.
 pub enum Place {

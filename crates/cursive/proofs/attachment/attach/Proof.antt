@@ -6,7 +6,7 @@ use Rattle.answers.specs.Said.{ranges}
 use Rattle.slots.specs.Line.{slots}
 use Rattle.tables.specs.Anchor.{spotOf}
 use Rattle.cursive.specs.CursivePos.{planOf}
-use Rattle.cursive.specs.Decision.{meant, Sound}
+use Rattle.cursive.specs.Meant.{meant, Sound}
 use Rattle.cursive.proofs.DecisionLaws.{effect-join, effect-stop}
 use borrow.Author.Needs.{needs}
 use Rattle.cursive.proofs.attachment.attach.Statement.{statement}

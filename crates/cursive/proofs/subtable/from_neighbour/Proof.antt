@@ -7,7 +7,7 @@ use Rattle.slots.specs.Line.{slots}
 use Rattle.tables.specs.Anchor.{spotOf}
 use Rattle.answers.specs.declared.Neighbour.{Neighbour}
 use Rattle.cursive.specs.CursivePos.{fromNeighbour, fromPrevious, indexOf, Plan, stop}
-use Rattle.cursive.specs.Decision.{Before}
+use Rattle.cursive.specs.Meant.{Before}
 use Rattle.cursive.proofs.DecisionLaws.{found, told}
 use borrow.Author.Needs.{needs}
 use Rattle.cursive.proofs.subtable.from_neighbour.Statement.{statement}

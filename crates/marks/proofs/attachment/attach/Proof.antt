@@ -7,7 +7,7 @@ use Rattle.slots.specs.Line.{slots}
 use Rattle.slots.specs.declared.axis.Axis.{Axis}
 use Rattle.slots.proofs.ChainLaws.{zero-fits}
 use Rattle.slots.proofs.ParentLaws.{cleared-is}
-use Rattle.marks.specs.Codes.{meant, Sound}
+use Rattle.marks.specs.Meant.{meant, Sound}
 use Rattle.marks.specs.Plan.{planOf}
 use Rattle.marks.proofs.AttachmentLaws.{effect-endless, effect-far, effect-hung, effect-stop}
 use borrow.Author.Needs.{needs}

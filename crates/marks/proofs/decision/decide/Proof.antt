@@ -3,7 +3,7 @@ use mathlib.Core.Path.{_∙_}
 use native.Mathlib.Omega.{arith}
 use denote.Ref.{now}
 use Rattle.slots.specs.Line.{slots}
-use Rattle.marks.specs.Codes.{placeOf}
+use Rattle.marks.specs.Meant.{placeOf}
 use Rattle.marks.proofs.MarkPosLaws.{good}
 use Rattle.marks.proofs.PlanLaws.{plan-no-bases, plan-search, plan-uncovered}
 use borrow.Author.Needs.{needs}

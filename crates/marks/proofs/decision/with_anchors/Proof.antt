@@ -3,7 +3,7 @@ use mathlib.Core.Path.{sym, ap, subst, _∙_}
 use denote.Ref.{now}
 use Rattle.slots.specs.Line.{slots}
 use Rattle.tables.specs.Anchor.{spotOf}
-use Rattle.marks.specs.Codes.{anchorsOf, FoundNear}
+use Rattle.marks.specs.Meant.{anchorsOf, FoundNear}
 use Rattle.marks.specs.Plan.{stop, withAnchors, withWalk}
 use Rattle.marks.specs.declared.anchors.Found.{Found}
 use borrow.Author.Needs.{needs}

@@ -3,7 +3,7 @@ use mathlib.Core.Path.{sym, ap, subst, _∙_}
 use native.Mathlib.Omega.{arith}
 use denote.Ref.{now}
 use Rattle.slots.specs.Line.{slots}
-use Rattle.marks.specs.Codes.{Before, placeOf}
+use Rattle.marks.specs.Meant.{Before, placeOf}
 use Rattle.marks.specs.MarkPos.{baseIndex}
 use Rattle.marks.specs.Plan.{stop, withFound, withSearch}
 use Rattle.marks.specs.declared.search.Place.{Place}

@@ -1,7 +1,7 @@
 -- `marks::decision::with_walk` meets its contract: the walk ends or not. Assumes nothing.
 use mathlib.Core.Path.{sym, ap}
 use Rattle.tables.specs.Anchor.{spotOf}
-use Rattle.marks.specs.Codes.{walkOf}
+use Rattle.marks.specs.Meant.{walkOf}
 use Rattle.marks.specs.Plan.{withWalk}
 use Rattle.marks.specs.declared.walk.Walk.{Walk}
 use borrow.Author.Needs.{needs}

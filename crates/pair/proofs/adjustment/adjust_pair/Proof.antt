@@ -11,7 +11,7 @@ use denote.Ref.{now}
 use Rattle.slots.specs.Line.{count, slots}
 use Rattle.tables.proofs.PartLaws.{to-end}
 use Rattle.answers.specs.Said.{ranges, said}
-use Rattle.pair.specs.Codes.{meant, Sound}
+use Rattle.pair.specs.Meant.{meant, Sound}
 use Rattle.pair.specs.Plan.{planOf}
 use Rattle.pair.specs.declared.decision.Decision.the-variants.{Adjust}
 use Rattle.pair.proofs.AdjustmentLaws.{adjusts, declines}

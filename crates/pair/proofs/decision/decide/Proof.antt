@@ -2,7 +2,7 @@
 use borrow.Author.Needs.{needs}
 use denote.Ref.{now}
 use Rattle.slots.specs.Line.{slots}
-use Rattle.pair.specs.Codes.{meant}
+use Rattle.pair.specs.Meant.{meant}
 use Rattle.pair.proofs.PlanLaws.{covered, uncovered}
 use Rattle.pair.proofs.decision.decide.Statement.{statement}
 use Rattle.pair.proofs.decision.decide.Tie as tie

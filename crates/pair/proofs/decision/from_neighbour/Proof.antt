@@ -5,7 +5,7 @@ use borrow.Author.Needs.{needs}
 use denote.Ref.{now}
 use Rattle.slots.specs.Line.{count, slots}
 use Rattle.answers.specs.Said.{ranges}
-use Rattle.pair.specs.Codes.{After, meant}
+use Rattle.pair.specs.Meant.{After, meant}
 use Rattle.pair.proofs.PlanLaws.{by-missing, by-named}
 use Rattle.pair.proofs.decision.from_neighbour.Statement.{statement}
 use Rattle.pair.proofs.decision.from_neighbour.Tie as tie

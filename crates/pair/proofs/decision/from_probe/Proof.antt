@@ -5,7 +5,7 @@ use lib.ListN.{drop}
 use borrow.Author.Needs.{needs}
 use denote.Ref.{now}
 use Rattle.pair.specs.Plan.{fromProbe, stop}
-use Rattle.pair.specs.ProbeSmall.{ProbeSmall}
+use Rattle.pair.specs.Meant.{ProbeSmall}
 use Rattle.pair.proofs.decision.from_probe.Statement.{statement}
 use Rattle.pair.proofs.decision.from_probe.Tie as tie
 

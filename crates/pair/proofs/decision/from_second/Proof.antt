@@ -7,7 +7,7 @@ use denote.Ref.{now}
 use Rattle.slots.specs.Line.{slots}
 use Rattle.tables.specs.ClassDef.{classGoodAt}
 use Rattle.tables.specs.Header.{posFormat}
-use Rattle.pair.specs.Codes.{meant, Sound}
+use Rattle.pair.specs.Meant.{meant, Sound}
 use Rattle.pair.proofs.PairPosLaws.{good}
 use Rattle.pair.proofs.PlanLaws.{by-classes, by-set}
 use Rattle.pair.proofs.decision.from_second.Statement.{statement}

@@ -2,7 +2,7 @@
 -- Assumes nothing.
 use borrow.Author.Needs.{needs}
 use denote.Ref.{now}
-use Rattle.pair.specs.Codes.{meant}
+use Rattle.pair.specs.Meant.{meant}
 use Rattle.pair.proofs.PlanLaws.{probed-set, set-in, short-set}
 use Rattle.pair.proofs.decision.from_set.Statement.{statement}
 use Rattle.pair.proofs.decision.from_set.Tie as tie

@@ -7,7 +7,7 @@ use borrow.Author.Needs.{needs}
 use denote.Ref.{now}
 use Rattle.slots.specs.Line.{slot, slots}
 use Rattle.single.specs.SinglePos.{placeFor}
-use Rattle.single.specs.Place.{placeOf, PlaceSmall}
+use Rattle.single.specs.Meant.{placeOf, PlaceSmall}
 use Rattle.single.specs.declared.subtable.Place.{Place}
 use Rattle.single.proofs.SinglePosLaws.{effect-none, effect-some, format-known, long}
 use Rattle.single.proofs.adjust.adjust.Statement.{statement}

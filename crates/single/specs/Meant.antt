@@ -1,4 +1,4 @@
--- What code's place stands for. Assumes nothing.
+-- What code's values stand for, and the bounds that code leans on. Assumes nothing.
 use mathlib.Core.Option.{Option, some, none}
 use Prim.Native.Nat.{ℕ, _<_}
 use Rattle.single.specs.declared.subtable.Place.{Place}

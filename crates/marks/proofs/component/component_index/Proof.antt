@@ -1,11 +1,11 @@
--- `marks::anchors::component_index` meets its contract: its tests are those of `componentIndex`, in order. Assumes nothing.
+-- `marks::component::component_index` meets its contract: its tests are those of `componentIndex`, in order. Assumes nothing.
 use native.Mathlib.Omega.{arith}
 use denote.Ref.{now}
 use Rattle.slots.specs.Line.{slot, slots}
 use Rattle.marks.proofs.MarkPosLaws.{component-none, component-other, component-own, component-past, component-zero}
 use borrow.Author.Needs.{needs}
-use Rattle.marks.proofs.anchors.component_index.Statement.{statement}
-use Rattle.marks.proofs.anchors.component_index.Tie as tie
+use Rattle.marks.proofs.component.component_index.Statement.{statement}
+use Rattle.marks.proofs.component.component_index.Tie as tie
 
 get-byte-requires : tie.Need-get-byte-requires
 get-byte-requires c κs = search needs

@@ -1,4 +1,4 @@
--- What code's decision stands for. Assumes nothing.
+-- What code's values stand for, and the bounds that code leans on. Assumes nothing.
 use mathlib.Core.List.{List}
 use Prim.Native.Nat.{ℕ, _≤_, _<_}
 use lib.ListN.{drop, length}
@@ -8,6 +8,8 @@ use Rattle.answers.specs.declared.Neighbour.the-variants.{At as Named, Missing}
 use Rattle.pair.specs.Plan.{Plan, stop, adjust}
 use Rattle.pair.specs.declared.decision.Decision.{Decision}
 use Rattle.pair.specs.declared.decision.Decision.the-variants.{Stop, Adjust}
+use Rattle.pair.specs.declared.pair_set.Probe.{Probe}
+use Rattle.pair.specs.declared.pair_set.Probe.the-variants.{Found, Nothing, Cut}
 
 -- the table is the part of the subtable t from an offset to the end
 abbrev pub meant : List ℕ → Decision → Plan
@@ -23,3 +25,9 @@ Sound t n idx (Adjust off at second) = (off ≤ length t) × ((at < 2147483648) 
 abbrev pub After : ℕ → ℕ → Neighbour → Type 0
 After n idx (Named second) = (idx < second) × (second < n)
 After n idx (Missing e) = Unit {0}
+
+-- a place that a probe found is a small number
+abbrev pub ProbeSmall : Probe → Type 0
+ProbeSmall (Found at) = at < 4194304
+ProbeSmall Nothing = Unit {0}
+ProbeSmall Cut = Unit {0}

@@ -1,4 +1,4 @@
--- What code's decision stands for. Assumes nothing.
+-- What code's values stand for, and the bounds that code leans on. Assumes nothing.
 use Prim.Native.Nat.{ℕ, _<_}
 use Rattle.tables.specs.Anchor.{Near16, spotOf}
 use Rattle.answers.specs.Said.{ranges}
