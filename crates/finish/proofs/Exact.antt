@@ -6,10 +6,10 @@ use Prim.Native.Nat.{ℕ, suc, _+_, _*_, _≤_, _<_}
 use native.Mathlib.Omega.{arith}
 use lib.IntN.{ℤ, pos, negℤ, natAbs, _+ℤ_, _-ℤ_}
 use lib.ListN.{length, length-map}
-use Rattle.ints.specs.Sums.{Near}
 use Rattle.ints.proofs.Ints.{bal-add, bal-neg, omegaℤ}
 use Rattle.ints.proofs.SaturatingLaws.{plus-exact}
 use Rattle.ints.proofs.SizeLaws.{abs-add, abs-sub}
+use Rattle.ints.proofs.SumsLaws.{Near}
 use Rattle.slots.specs.Axis.{forward}
 use Rattle.slots.specs.Slot.{Slot}
 use Rattle.slots.specs.Line.{slot}
@@ -18,9 +18,9 @@ use Rattle.slots.specs.declared.axis.Axis.{Axis}
 use Rattle.slots.specs.declared.axis.Axis.the-variants.{X, Y}
 use Rattle.slots.specs.declared.axis.Direction.{Direction}
 use Rattle.slots.specs.declared.fields.Measure.the-variants.{Offset}
-use Rattle.slots.proofs.FieldLaws.{measure-chain}
+use Rattle.slots.proofs.FieldLaws.{free, measure-chain}
 use Rattle.slots.proofs.ParentLaws.{parent-in-line}
-use Rattle.finish.specs.Finish.{advances, free, isMain, Kind, mark, cursive, neither, kindOf, taken, walked, withOffsets}
+use Rattle.finish.specs.Finish.{advances, isMain, Kind, mark, cursive, neither, kindOf, taken, walked, withOffsets}
 use Rattle.finish.specs.Demand3.{Bounded, pen}
 use Rattle.finish.proofs.Along.{along, along-holds}
 use Rattle.finish.proofs.Pens.{pen-near, walk-exact, walked-by}

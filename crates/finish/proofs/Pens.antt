@@ -11,9 +11,9 @@ use lib.Dec.{ltb}
 use lib.IntN.{ℤ, negℤ, natAbs, _+ℤ_, _-ℤ_, +ℤ-comm}
 use lib.ListN.{length, take, drop, take-append-drop, length-take, length-drop}
 use lib.Seq.{slice, take-take, drop-append-le, length-take-le, length-slice}
-use Rattle.ints.specs.Sums.{Near, stepwise, total}
+use Rattle.ints.specs.Sums.{stepwise, total}
 use Rattle.ints.proofs.Ints.{bal-add, bal-neg, omegaℤ}
-use Rattle.ints.proofs.SumsLaws.{lessAll-exact, near-drop, near-take, plusAll-exact, total-append, total-near}
+use Rattle.ints.proofs.SumsLaws.{Near, less-all-exact, near-drop, near-take, plus-all-exact, total-append, total-near}
 use Rattle.slots.specs.Axis.{forward}
 use Rattle.slots.specs.Slot.{Slot}
 use Rattle.slots.specs.Fields.{advance}
@@ -95,8 +95,8 @@ module _ (b : ℕ) (zs : List ℤ) (near : Near b zs) where
     module _ (z : ℤ) (small : natAbs z + b * length zs ≤ 2147483647) where
       -- nothing saturates on the way
       steps-exact : (s f : Bool) → stepwise (stepBy s) z (between f zs i j) ≡ exactBy s z (total (between f zs i j))
-      steps-exact true f = let more = mul-le-mul-left b (short-between f) in lessAll-exact b z (between f zs i j) (near-between f) (omega arith)
-      steps-exact false f = let more = mul-le-mul-left b (short-between f) in plusAll-exact b z (between f zs i j) (near-between f) (omega arith)
+      steps-exact true f = let more = mul-le-mul-left b (short-between f) in less-all-exact b z (between f zs i j) (near-between f) (omega arith)
+      steps-exact false f = let more = mul-le-mul-left b (short-between f) in plus-all-exact b z (between f zs i j) (near-between f) (omega arith)
 
       -- z with the advances between put to it has gone from the slot's pen place to the parent's
       pub walk-exact : (f : Bool) → stepwise (stepBy (subtracts (ltb j i) f)) z (between f zs i j) ≡ z +ℤ (penOf f zs j -ℤ penOf f zs i)

@@ -18,10 +18,10 @@ use Rattle.slots.specs.declared.axis.Direction.{Direction}
 use Rattle.slots.specs.declared.parent.Parent.{Parent}
 use Rattle.slots.specs.declared.parent.Parent.the-variants.{None, Outside, At}
 use Rattle.slots.specs.declared.fields.Measure.the-variants.{Advance}
-use Rattle.slots.proofs.FieldLaws.{measure-chain}
+use Rattle.slots.proofs.FieldLaws.{free, measure-chain}
 use Rattle.slots.proofs.LineLaws.{length-update, update-other, update-same}
 use Rattle.slots.proofs.ParentLaws.{cleared-count}
-use Rattle.finish.specs.Finish.{advances, finished, free, joined, newOffset, settled, settledDown, settledUp, withOffsets}
+use Rattle.finish.specs.Finish.{advances, finished, joined, newOffset, settled, settledDown, settledUp, withOffsets}
 
 -- ---- one way through `settled` for each kind of parent
 module _ (d : Direction) (m : List Slot) (i : ℕ) where

@@ -20,9 +20,9 @@ use Rattle.slots.specs.declared.axis.Direction.{Direction}
 use Rattle.slots.specs.declared.parent.Parent.{Parent}
 use Rattle.slots.specs.declared.parent.Parent.the-variants.{None, Outside, At}
 use Rattle.slots.specs.declared.fields.Measure.the-variants.{Offset}
-use Rattle.slots.proofs.FieldLaws.{measure-chain}
+use Rattle.slots.proofs.FieldLaws.{free, measure-chain}
 use Rattle.slots.proofs.ParentLaws.{at-hangs, chain-zero, child-in-line, cleared-count, cleared-other, cleared-own, none-ends, outside-ends, outside-hangs, parent-in-line, parent-none, parent-same}
-use Rattle.finish.specs.Finish.{advances, finished, free, isMain, joined, kindOf, newOffset, settled, settledDown, settledUp, withOffsets}
+use Rattle.finish.specs.Finish.{advances, finished, isMain, joined, kindOf, newOffset, settled, settledDown, settledUp, withOffsets}
 use Rattle.finish.specs.Demand3.{Bounded}
 use Rattle.finish.proofs.Along.{along, along-at, along-end, along-holds}
 use Rattle.finish.proofs.Pens.{walked-same}

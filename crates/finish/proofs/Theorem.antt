@@ -16,9 +16,9 @@ use Rattle.slots.specs.declared.axis.Direction.the-variants.{LeftToRight, Right
 use Rattle.slots.specs.declared.parent.Parent.{Parent}
 use Rattle.slots.specs.declared.parent.Parent.the-variants.{None, Outside, At}
 use Rattle.slots.specs.declared.fields.Measure.the-variants.{Advance, Offset}
-use Rattle.slots.proofs.FieldLaws.{measure-chain}
+use Rattle.slots.proofs.FieldLaws.{free, measure-chain}
 use Rattle.slots.proofs.ParentLaws.{none-ends, outside-ends}
-use Rattle.finish.specs.Finish.{finished, free, isMain, kindOf, withOffsets}
+use Rattle.finish.specs.Finish.{finished, isMain, kindOf, withOffsets}
 use Rattle.finish.specs.Demand3.{Bounded, Cursive, Demand3, Kept, Mark, pen}
 use Rattle.finish.proofs.Along.{along-holds}
 use Rattle.finish.proofs.Exact.{exact, final, offset-onto, onto}

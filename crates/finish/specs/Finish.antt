@@ -3,7 +3,7 @@ use mathlib.Core.Bool.{Bool, true, false}
 use mathlib.Core.List.{List, map}
 use Prim.Native.Nat.{ℕ, zero, suc, min, max}
 use lib.Dec.{ltb}
-use lib.IntN.{ℤ, pos}
+use lib.IntN.{ℤ}
 use lib.ListN.{length}
 use lib.Seq.{slice}
 use Rattle.ints.specs.Choice.{if_then_else_}
@@ -12,7 +12,7 @@ use Rattle.ints.specs.Sums.{stepwise}
 use Rattle.slots.specs.Axis.{forward, main}
 use Rattle.slots.specs.Slot.{Slot}
 use Rattle.slots.specs.Line.{slot, update}
-use Rattle.slots.specs.Fields.{advance, moved, offset, withChain}
+use Rattle.slots.specs.Fields.{advance, moved, offset}
 use Rattle.slots.specs.Parent.{byParent, cleared, parent}
 use Rattle.slots.specs.declared.axis.Axis.{Axis}
 use Rattle.slots.specs.declared.axis.Axis.the-variants.{X, Y}
@@ -84,12 +84,9 @@ newOffset d l i j a = taken (kindOf (slot l i .attachType)) (isMain d a) (walked
 
 -- ---- finishing
 
--- the slot with other offsets, and the slot unattached, all else as it was
+-- the slot with other offsets, all else as it was
 abbrev pub withOffsets : ℤ → ℤ → Slot → Slot
 withOffsets ox oy s = moved (s .xAdvance) (s .yAdvance) ox oy s
-
-abbrev pub free : Slot → Slot
-free s = withChain (pos 0) s
 
 -- the line with slot i having taken its parent j in
 unfoldable pub joined : Direction → List Slot → ℕ → ℕ → List Slot

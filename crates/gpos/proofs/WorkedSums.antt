@@ -31,7 +31,8 @@ use Rattle.cursive.specs.Attachment.{joinedAt, separatedBy, tied}
 use Rattle.cursive.specs.Chains.{attachedCount}
 use Rattle.cursive.specs.CursivePos.{planOf as cursivePlan}
 use Rattle.cursive.specs.Reversal.{reversed, reversedIn, turned}
-use Rattle.marks.specs.MarkPos.{anchorsFor, baseIndex, componentIndex, markIndex, marksGood}
+use Rattle.marks.specs.Component.{componentIndex}
+use Rattle.marks.specs.MarkPos.{anchorsFor, baseIndex, markIndex, marksGood}
 use Rattle.marks.specs.Plan.{planOf as markPlan}
 use Rattle.marks.specs.Search.{nearest, stopsAt}
 use Rattle.marks.specs.Walk.{crossWalk, walkIn}

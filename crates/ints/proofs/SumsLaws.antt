@@ -1,14 +1,18 @@
 -- Sums of at most n integers within b of zero stay within n b, and nothing saturates. Assumes nothing.
 use mathlib.Core.Path.{_≡_, refl, sym, ap, _∙_}
 use mathlib.Core.List.{List, [], _∷_, _++_}
-use Prim.Native.Nat.{ℕ, zero, suc, _+_, _*_, _≤_}
+use Prim.Native.Nat.{ℕ, zero, suc, _+_, _*_, _≤_, _<_}
 use native.Mathlib.Omega.{arith}
 use lib.IntN.{ℤ, pos, negℤ, natAbs, _+ℤ_, _-ℤ_, +ℤ-assoc, +ℤ-idl, +ℤ-idr, negℤ-+ℤ}
-use lib.ListN.{length, take, drop}
+use lib.ListN.{length, getD, take, drop}
 use Rattle.ints.specs.Saturating.{less, plus}
-use Rattle.ints.specs.Sums.{lessAll, Near, plusAll, stepwise, total}
+use Rattle.ints.specs.Sums.{stepwise, total}
 use Rattle.ints.proofs.SaturatingLaws.{less-exact, plus-exact}
 use Rattle.ints.proofs.SizeLaws.{abs-add, abs-neg}
+
+-- every integer of the list is within b of zero
+abbrev pub Near : ℕ → List ℤ → Type 0
+Near b zs = (k : ℕ) → k < length zs → natAbs (getD zs k (pos 0)) ≤ b
 
 -- the sum of two lists together
 pub total-append : (s t : List ℤ) → total (s ++ t) ≡ total s +ℤ total t
@@ -50,11 +54,11 @@ module _ (b : ℕ) where
       ∙ +ℤ-assoc z (s a) (s (total zs))
       ∙ ap (λ w. z +ℤ w) (sym (sum a (total zs)))
 
-  pub plusAll-exact : (z : ℤ) (zs : List ℤ) → Near b zs → natAbs z + b * length zs ≤ 2147483647 → plusAll z zs ≡ z +ℤ total zs
-  plusAll-exact = stepwise-exact plus (λ a. a) refl (λ a c. refl) (λ a. refl) plus-exact
+  pub plus-all-exact : (z : ℤ) (zs : List ℤ) → Near b zs → natAbs z + b * length zs ≤ 2147483647 → stepwise plus z zs ≡ z +ℤ total zs
+  plus-all-exact = stepwise-exact plus (λ a. a) refl (λ a c. refl) (λ a. refl) plus-exact
 
-  pub lessAll-exact : (z : ℤ) (zs : List ℤ) → Near b zs → natAbs z + b * length zs ≤ 2147483647 → lessAll z zs ≡ z -ℤ total zs
-  lessAll-exact = stepwise-exact less negℤ refl negℤ-+ℤ abs-neg less-exact
+  pub less-all-exact : (z : ℤ) (zs : List ℤ) → Near b zs → natAbs z + b * length zs ≤ 2147483647 → stepwise less z zs ≡ z -ℤ total zs
+  less-all-exact = stepwise-exact less negℤ refl negℤ-+ℤ abs-neg less-exact
 
 -- one more at the end is one step more
 pub stepwise-more : (f : ℤ → ℤ → ℤ) (z : ℤ) (zs : List ℤ) (a : ℤ) → stepwise f z (zs ++ (a ∷ [])) ≡ f (stepwise f z zs) a

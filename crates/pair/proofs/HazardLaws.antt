@@ -1,6 +1,6 @@
 -- Pair adjustment reports at most two hazards where it is applied, at most one where it declines, by the plan's cases. Assumes nothing.
 use mathlib.Core.Bool.{Bool, true, false, _&&_}
-use mathlib.Core.List.{List, []}
+use mathlib.Core.List.{List}
 use Prim.Native.Nat.{ℕ, _+_}
 use native.Mathlib.Omega.{arith}
 use lib.Dec.{eqb, leb, ltb}
@@ -18,7 +18,7 @@ use Rattle.answers.specs.declared.Neighbour.the-variants.{At as Named, Missing}
 use Rattle.pair.specs.Adjustment.{eitherWorked, hasSecond, pairSaid, planSaid}
 use Rattle.pair.specs.PairPos.{classRecord, firstClass, class1Count, firstIndex, pairLength, pairSet, secondClass, class2Count}
 use Rattle.pair.specs.PairSet.{probe}
-use Rattle.pair.specs.Plan.{Plan, adjust, fromClasses, fromCovered, fromNeighbour, fromProbe, fromSecond, fromSet, missed, planOf, stop}
+use Rattle.pair.specs.Plan.{Plan, adjust, fromClasses, fromCovered, fromNeighbour, fromProbe, fromSet, planOf}
 use Rattle.pair.specs.declared.pair_set.Probe.{Probe}
 use Rattle.pair.specs.declared.pair_set.Probe.the-variants.{Found, Nothing, Cut}
 

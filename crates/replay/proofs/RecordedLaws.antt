@@ -10,9 +10,10 @@ use lib.ListN.{length, getD, length-map}
 use borrow.Author.Tests.{eqb-true, eq-eqb}
 use Rattle.ints.specs.BigEndian.{Bytes, natAt}
 use Rattle.ints.specs.Choice.{if_then_else_}
-use Rattle.ints.specs.Signed.{intAt, pattern, val}
+use Rattle.ints.specs.Signed.{intAt, val}
 use Rattle.ints.proofs.BigEndianLaws.{natAt-fits}
-use Rattle.ints.proofs.SignedLaws.{pattern-signed}
+use Rattle.ints.proofs.SignedLaws.{signed-same}
+use Rattle.ints.proofs.TestLaws.{clash}
 use Rattle.gpos_c.specs.declared.layout.CAnswer.{CAnswer}
 use Rattle.gpos_c.specs.declared.layout.CHazard.{CHazard}
 use Rattle.replay.specs.Recorded.{numberAt, recordedAnswer, RecordedDone, recordedHazard}
@@ -20,11 +21,11 @@ use Rattle.replay.specs.Recorded.{numberAt, recordedAnswer, RecordedDone
 -- two patterns of four bytes that stand for the same integer are the same
 pub pattern-at : (l : List ℕ) (at r : ℕ) → Bytes l → r < 4294967296 → val r ≡ intAt 4 l at → r ≡ natAt 4 l at
 unfolding intAt
-pattern-at l at r b f e = sym (pattern-signed 4 r f) ∙ ap (pattern 4) e ∙ pattern-signed 4 (natAt 4 l at) (natAt-fits 4 l at b)
+pattern-at l at r b f e = signed-same 4 r (natAt 4 l at) f (natAt-fits 4 l at b) e
 
 -- false is not true
 pub never : {P : Type 0} → false ≡ true → P
-never e = let z : _≡_ {A = ℕ} 0 1 = cc in absurd (omega arith)
+never e = clash (cc)
 
 -- false decides what doesn't hold
 pub refuted : {P : Type 0} → (P → ⊥) → false ≡ true ↔ P
@@ -69,7 +70,7 @@ answer-same status refusal attached hazards next hazard =
 module _ (head : List ℕ) (a : CAnswer) (d : CHazard) (r : Bool) where
   -- where the first hazard is another, so is the answer
   pub other-first : (r ≡ true ↔ getD (a .hazard) 0 d ≡ recordedHazard head 17) → r ≡ false → false ≡ true ↔ a ≡ recordedAnswer head
-  other-first first n = refuted (λ p. let e = first .1 (ap (λ (x : CAnswer). getD (x .hazard) 0 d) p) in let z : _≡_ {A = ℕ} 0 1 = cc in omega arith)
+  other-first first n = refuted (λ p. let e = first .1 (ap (λ (x : CAnswer). getD (x .hazard) 0 d) p) in clash (cc))
 
   -- where all but the second hazard agrees, that one decides
   pub answer-by-second : length (a .hazard) ≡ 2 → a .status ≡ numberAt head 12 → a .refusal ≡ numberAt head 13 → a .attached ≡ numberAt head 14 → a .hazards ≡ numberAt head 15 → a .next ≡ numberAt head 16

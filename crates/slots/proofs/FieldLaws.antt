@@ -3,7 +3,7 @@ use mathlib.Core.Path.{_≡_, refl}
 use mathlib.Core.List.{List, []}
 use Prim.Native.Nat.{ℕ, _<_}
 use native.Mathlib.Omega.{arith}
-use lib.IntN.{ℤ}
+use lib.IntN.{ℤ, pos}
 use lib.ListN.{length, getD, set}
 use Rattle.ints.specs.BigEndian.{digits, natAt, withNat}
 use Rattle.ints.specs.Signed.{InBytes, intAt, signed, withInt}
@@ -58,6 +58,10 @@ module _ (z : ℤ) (h : InBytes 4 z) where
   measure-put Advance Y = by-cells (λ (q : List ℕ). slotOf (withInt 4 q 12 z) ≡ withMeasure Advance Y z (slotOf q)) (λ g. rw (intAt-digits 4 z (omega arith) h []))
   measure-put Offset X = by-cells (λ (q : List ℕ). slotOf (withInt 4 q 16 z) ≡ withMeasure Offset X z (slotOf q)) (λ g. rw (intAt-digits 4 z (omega arith) h []))
   measure-put Offset Y = by-cells (λ (q : List ℕ). slotOf (withInt 4 q 20 z) ≡ withMeasure Offset Y z (slotOf q)) (λ g. rw (intAt-digits 4 z (omega arith) h []))
+
+-- ---- the slot with chain 0, all else as it was
+abbrev pub free : Slot → Slot
+free s = withChain (pos 0) s
 
 -- ---- another chain leaves the advances and the offsets
 pub measure-chain : (m : Measure) (a : Axis) (c : ℤ) (s : Slot) → measure m a (withChain c s) ≡ measure m a s
