@@ -13,6 +13,10 @@ offScale s u = ltb s 1 || (ltb 32768 s || (ltb u 16 || ltb 16384 u))
 abbrev pub lineTests : List ℕ → ℕ → Bool → List (Bool × ℕ)
 lineTests l direction badNumber = (misshapen l, 1) ∷ (ltb 3 direction, 2) ∷ (badNumber, 3) ∷ (unranged l, 4) ∷ []
 
--- refusals 1 to 6 of an applying call: besides these, a bad index or neighbour, and a bad subtable
+-- refusals 1 to 5 of an applying call: besides these, a bad index or neighbour
+abbrev pub callTests : List ℕ → ℕ → ℕ → ℕ → Bool → List (Bool × ℕ)
+callTests l direction s u badIndex = lineTests l direction (offScale s u) ++ ((badIndex, 5) ∷ [])
+
+-- refusals 1 to 6: and a bad subtable
 abbrev pub applyingTests : List ℕ → ℕ → ℕ → ℕ → Bool → Bool → List (Bool × ℕ)
-applyingTests l direction s u badIndex badSubtable = lineTests l direction (offScale s u) ++ ((badIndex, 5) ∷ (badSubtable, 6) ∷ [])
+applyingTests l direction s u badIndex badSubtable = callTests l direction s u badIndex ++ ((badSubtable, 6) ∷ [])

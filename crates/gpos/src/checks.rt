@@ -1,9 +1,9 @@
-// The checks that calls share, each made once. What is answered goes by the order of document 01's table.
+// The checks that calls share, each made once, in the order of document 01's table.
 use answers::Done;
 use answers::Refusal;
 ghost use mathlib.Core.Path.{_≡_};
 ghost use Rattle.answers.specs.Said.{done, saidDone, unless};
-ghost use Rattle.gpos.specs.Tests.{applyingTests, lineTests, offScale};
+ghost use Rattle.gpos.specs.Tests.{callTests, lineTests, offScale};
 
 // Is s or u out of its range?
 fn is_off_scale(s: u32, u: u32) -> bool
@@ -40,16 +40,9 @@ pub fn check_line(line: &[u8], direction: u32, unfit: bool) -> Done
     Done::Done
 }
 
-// Refusals 1 to 6 of an applying call: `misplaced` says that the index or the neighbour is bad, `damaged` that the subtable is.
-pub fn check_call(
-    line: &[u8],
-    direction: u32,
-    s: u32,
-    u: u32,
-    misplaced: bool,
-    damaged: bool,
-) -> Done
-    ensures { λ r. ⌜ saidDone r ≡ unless (applyingTests (now (line .entry)) direction s u misplaced damaged) done ⌝ }
+// Refusals 1 to 5 of an applying call: `misplaced` says that the index or the neighbour is bad.
+pub fn check_call(line: &[u8], direction: u32, s: u32, u: u32, misplaced: bool) -> Done
+    ensures { λ r. ⌜ saidDone r ≡ unless (callTests (now (line .entry)) direction s u misplaced) done ⌝ }
 {
     let checked = check_line(line, direction, is_off_scale(s, u));
     match checked {
@@ -57,9 +50,6 @@ pub fn check_call(
         Done::Done => {
             if misplaced {
                 return Done::Refused(Refusal::Index);
-            }
-            if damaged {
-                return Done::Refused(Refusal::Subtable);
             }
             Done::Done
         }

@@ -4,6 +4,7 @@ use crate::neighbours::is_bad_previous;
 use answers::Answer;
 use answers::Done;
 use answers::Neighbour;
+use answers::Refusal;
 use slots::axis::direction_of;
 ghost use Rattle.gpos.specs.Cursive.{Cursived};
 
@@ -22,11 +23,13 @@ pub fn cursive(
     ensures { λ r. ⌜ Cursived (now (line .entry)) (now (subtable .entry)) direction s u index previous flag r (now (line .exit)) ⌝ }
 {
     let misplaced = is_bad_previous(slots::fields::slot_count(line), index, previous);
-    let damaged = !cursive::subtable::is_good(subtable);
-    let checked = check_call(line, direction, s, u, misplaced, damaged);
+    let checked = check_call(line, direction, s, u, misplaced);
     match checked {
         Done::Refused(r) => Answer::Refused(r),
         Done::Done => {
+            if !cursive::subtable::is_good(subtable) {
+                return Answer::Refused(Refusal::Subtable);
+            }
             cursive::attachment::attach(
                 line,
                 subtable,

@@ -2,6 +2,7 @@
 use crate::checks::check_call;
 use answers::Answer;
 use answers::Done;
+use answers::Refusal;
 use marks::subtable::Kind;
 use slots::axis::direction_of;
 ghost use Rattle.marks.specs.declared.subtable.Kind.the-variants.{Base, Ligature};
@@ -20,11 +21,13 @@ fn mark(
     ensures { λ r. ⌜ Marked kind (now (line .entry)) (now (subtable .entry)) direction s u index r (now (line .exit)) ⌝ }
 {
     let misplaced = slots::fields::slot_count(line) <= index;
-    let damaged = !marks::subtable::is_good(subtable);
-    let checked = check_call(line, direction, s, u, misplaced, damaged);
+    let checked = check_call(line, direction, s, u, misplaced);
     match checked {
         Done::Refused(r) => Answer::Refused(r),
         Done::Done => {
+            if !marks::subtable::is_good(subtable) {
+                return Answer::Refused(Refusal::Subtable);
+            }
             marks::attachment::attach(line, subtable, kind, direction_of(direction), s, u, index)
         }
     }

@@ -4,6 +4,7 @@ use crate::neighbours::is_bad_second;
 use answers::Answer;
 use answers::Done;
 use answers::Neighbour;
+use answers::Refusal;
 use slots::axis::direction_of;
 ghost use Rattle.gpos.specs.Pair.{Paired};
 
@@ -20,11 +21,13 @@ pub fn pair(
     ensures { λ r. ⌜ Paired (now (line .entry)) (now (subtable .entry)) direction s u index second r (now (line .exit)) ⌝ }
 {
     let misplaced = is_bad_second(slots::fields::slot_count(line), index, second);
-    let damaged = !pair::subtable::is_good(subtable);
-    let checked = check_call(line, direction, s, u, misplaced, damaged);
+    let checked = check_call(line, direction, s, u, misplaced);
     match checked {
         Done::Refused(r) => Answer::Refused(r),
         Done::Done => {
+            if !pair::subtable::is_good(subtable) {
+                return Answer::Refused(Refusal::Subtable);
+            }
             pair::adjustment::adjust_pair(
                 line,
                 subtable,

@@ -2,6 +2,7 @@
 use crate::checks::check_call;
 use answers::Answer;
 use answers::Done;
+use answers::Refusal;
 use slots::axis::direction_of;
 ghost use Rattle.gpos.specs.Single.{Singled};
 
@@ -17,11 +18,13 @@ pub fn single(
     ensures { λ r. ⌜ Singled (now (line .entry)) (now (subtable .entry)) direction s u index r (now (line .exit)) ⌝ }
 {
     let misplaced = slots::fields::slot_count(line) <= index;
-    let damaged = !single::subtable::is_good(subtable);
-    let checked = check_call(line, direction, s, u, misplaced, damaged);
+    let checked = check_call(line, direction, s, u, misplaced);
     match checked {
         Done::Refused(r) => Answer::Refused(r),
         Done::Done => {
+            if !single::subtable::is_good(subtable) {
+                return Answer::Refused(Refusal::Subtable);
+            }
             single::adjust::adjust(line, subtable, direction_of(direction), s, u, index)
         }
     }

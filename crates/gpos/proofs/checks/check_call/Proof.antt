@@ -1,9 +1,9 @@
--- The tests of the line come first, then those of the index and of the subtable. Assumes nothing.
+-- The tests of the line come first, then that of the index. Assumes nothing.
 use mathlib.Core.Path.{_≡_, sym, ap, _∙_}
 use mathlib.Core.Bool.{Bool}
 use Rattle.answers.specs.Said.{done, saidDone, unless}
 use Rattle.gpos.specs.Tests.{lineTests, offScale}
-use Rattle.gpos.proofs.ApplyingLaws.{index-refused, line-refused, none-refused, subtable-refused}
+use Rattle.gpos.proofs.ApplyingLaws.{index-refused, line-refused, none-refused}
 use borrow.Author.Needs.{needs}
 use Rattle.gpos.proofs.checks.check_call.Statement.{statement}
 use Rattle.gpos.proofs.checks.check_call.Tie as tie
@@ -37,23 +37,18 @@ passed c = sym (tested (c .before .before)) ∙ ap saidDone (c .enum-told .given
 returns : tie.Need-returns
 returns c =
     let a = c .before .before .before .before .before .before .args in
-    sym (index-refused (a .line .now) (a .direction) (a .s) (a .u) (a .misplaced) (a .damaged) (passed (c .before)) (c .if1 .taken))
+    sym (index-refused (a .line .now) (a .direction) (a .s) (a .u) (a .misplaced) (passed (c .before)) (c .if1 .taken))
 
 returns-2 : tie.Need-returns-2
 returns-2 c =
-    let a = c .before .before .before .before .before .before .before .args in
-    sym (subtable-refused (a .line .now) (a .direction) (a .s) (a .u) (a .misplaced) (a .damaged) (passed (c .before .before)) (c .before .if1 .left) (c .if2 .taken))
+    let k = c .before .before .before in
+    let a = k .before .before .before .args in
+    sym (line-refused (a .line .now) (a .direction) (a .s) (a .u) (a .misplaced) _ (sym (tested k) ∙ ap saidDone (c .before .checked .given .1)))
 
 returns-3 : tie.Need-returns-3
 returns-3 c =
-    let k = c .before .before .before in
-    let a = k .before .before .before .args in
-    sym (line-refused (a .line .now) (a .direction) (a .s) (a .u) (a .misplaced) (a .damaged) _ (sym (tested k) ∙ ap saidDone (c .before .checked .given .1)))
-
-returns-4 : tie.Need-returns-4
-returns-4 c =
-    let a = c .before .before .before .before .before .before .before .args in
-    sym (none-refused (a .line .now) (a .direction) (a .s) (a .u) (a .misplaced) (a .damaged) (passed (c .before .before)) (c .before .if1 .left) (c .if2 .left))
+    let a = c .before .before .before .before .before .before .args in
+    sym (none-refused (a .line .now) (a .direction) (a .s) (a .u) (a .misplaced) (passed (c .before)) (c .if1 .left))
 
 pub check-call-spec : {M : Type 1} → statement M
 check-call-spec =
@@ -65,5 +60,4 @@ check-call-spec =
     enum-told
     returns
     returns-2
-    returns-3
-    returns-4)
+    returns-3)

@@ -8,7 +8,7 @@ use Rattle.cursive.specs.Attachment.{planned}
 use Rattle.cursive.specs.CursivePos.{cursiveGood, planOf, planSaid}
 use Rattle.answers.specs.Said.{done, said, saidDone, unless}
 use Rattle.gpos.specs.Neighbours.{badBefore, badPrevious}
-use Rattle.gpos.proofs.ApplyingLaws.{Call, by-core, callOf, checked, passed, refused-by, tests}
+use Rattle.gpos.proofs.ApplyingLaws.{Call, by-core, callOf, checked, passed, refused-by, refused-subtable, tests}
 use Rattle.gpos.proofs.NeighbourLaws.{before, index-in}
 use borrow.Author.Needs.{needs}
 use Rattle.gpos.proofs.cursive_pos.cursive.Statement.{statement}
@@ -25,24 +25,19 @@ call c =
     (λ d. planned (a .s) (a .u) d (a .flag) (a .index) (planOf t (slots l) (a .index) (a .previous)) (slots l))
 
 abbrev start : tie.After-check-call → tie.Start
-start k = k .before .before .before .before .before .before .before .before
+start k = k .before .before .before .before .before .before .before
 
 -- what its checks said
 tested : (k : tie.After-check-call) → saidDone (k .check-call .result) ≡ unless (tests (call (start k))) done
 tested k =
     let a = start k .args in
-    let g = k .before .before in
-    checked (call (start k)) (k .check-call .ensures) (g .before .is-bad-previous .ensures ∙ ap (λ (n : ℕ). badPrevious n (a .index) (a .previous)) (g .before .before .slot-count .ensures))
-    (ap not (g .is-good .ensures))
+    checked (call (start k)) (k .check-call .ensures) (k .before .before .is-bad-previous .ensures ∙ ap (λ (n : ℕ). badPrevious n (a .index) (a .previous)) (k .before .before .before .slot-count .ensures))
 
 slot-count-requires : tie.Need-slot-count-requires
 slot-count-requires c κs = search needs
 
 is-bad-previous-requires : tie.Need-is-bad-previous-requires
 is-bad-previous-requires c κs = search needs
-
-is-good-requires : tie.Need-is-good-requires
-is-good-requires c κs = search needs
 
 check-call-requires : tie.Need-check-call-requires
 check-call-requires c κs = search needs
@@ -53,40 +48,54 @@ enum-known-checked c = search needs
 enum-told : tie.Need-enum-told
 enum-told c = search needs
 
--- none refuses
+-- none of them refuses
 ok : (c : tie.After-enum-told) → unless (tests (call (start (c .before .before)))) done ≡ done
 ok c = sym (tested (c .before .before)) ∙ ap saidDone (c .enum-told .given .1)
 
-direction-of-requires : tie.Need-direction-of-requires
-direction-of-requires c κs = search needs
-
-attach-requires : tie.Need-attach-requires
-attach-requires c κs =
-    let s = start (c .before .before .before .before) in
-    let a = s .args in
-    let p = passed (call s) (ok (c .before .before)) in
-    let n = count (a .line .now) in
-    let place = index-in n (a .index) (badBefore n (a .index) (a .previous)) (p .index) in
-    (place .0, before n (a .index) (a .previous) (place .1), p .scale, not-false _ (p .subtable))
+is-good-requires : tie.Need-is-good-requires
+is-good-requires c κs = search needs
 
 same-length : tie.Need-same-length
 same-length c = search needs
 
 returns : tie.Need-returns
 returns c =
-    let k = c .before .before .before in
-    refused-by (call (start k)) _ (sym (tested k) ∙ ap saidDone (c .before .checked .given .1))
+    let told = c .before .before in
+    refused-subtable (call (start (told .before .before))) (ok told) (ap not (sym (c .before .is-good .ensures)) ∙ c .if1 .taken)
+
+direction-of-requires : tie.Need-direction-of-requires
+direction-of-requires c κs = search needs
+
+attach-requires : tie.Need-attach-requires
+attach-requires c κs =
+    let good = c .before .before .before in
+    let s = start (good .before .before .before) in
+    let a = s .args in
+    let p = passed (call s) (ok (good .before)) in
+    let subtable = sym (good .is-good .ensures) ∙ not-false _ (c .before .before .if1 .left) in
+    let n = count (a .line .now) in
+    let place = index-in n (a .index) (badBefore n (a .index) (a .previous)) (p .place) in
+    (place .0, before n (a .index) (a .previous) (place .1), p .scale, subtable)
 
 same-length-2 : tie.Need-same-length-2
 same-length-2 c = search needs
 
 returns-2 : tie.Need-returns-2
 returns-2 c =
+    let k = c .before .before .before in
+    refused-by (call (start k)) _ (sym (tested k) ∙ ap saidDone (c .before .checked .given .1))
+
+same-length-3 : tie.Need-same-length-3
+same-length-3 c = search needs
+
+returns-3 : tie.Need-returns-3
+returns-3 c =
     let core = c .before .before .attach in
-    let told = c .before .before .before .before .before in
+    let else = c .before .before .before .before .before in
+    let told = else .before .before in
     let k = told .before .before in
-    by-core (call (start k)) (ok told) (core .last .0) (said (core .result)) (c .before .before .before .direction-of .ensures)
-    (λ n. k .before .before .before .before .before .before .before .slice-known .given n .fits) (λ n. c .slice-known2 .given n .fits) (core .kept .0) (core .ensures)
+    by-core (call (start k)) (ok told) (core .last .0) (said (core .result)) (ap not (sym (else .before .is-good .ensures)) ∙ else .if1 .left)
+    (c .before .before .before .direction-of .ensures) (λ n. k .before .before .before .before .before .before .slice-known .given n .fits) (λ n. c .slice-known2 .given n .fits) (core .kept .0) (core .ensures)
 
 pub cursive-spec : {M : Type 1} → statement M
 cursive-spec =
@@ -94,13 +103,15 @@ cursive-spec =
     (tie.spec
     slot-count-requires
     is-bad-previous-requires
-    is-good-requires
     check-call-requires
     enum-known-checked
     enum-told
-    direction-of-requires
-    attach-requires
+    is-good-requires
     same-length
     returns
+    direction-of-requires
+    attach-requires
     same-length-2
-    returns-2)
+    returns-2
+    same-length-3
+    returns-3)

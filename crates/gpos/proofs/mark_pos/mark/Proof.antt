@@ -10,7 +10,7 @@ use Rattle.marks.specs.Attachment.{planned}
 use Rattle.marks.specs.MarkPos.{marksGood}
 use Rattle.marks.specs.Plan.{planOf, planSaid}
 use Rattle.answers.specs.Said.{done, said, saidDone, unless}
-use Rattle.gpos.proofs.ApplyingLaws.{Call, by-core, callOf, checked, passed, refused-by, tests}
+use Rattle.gpos.proofs.ApplyingLaws.{Call, by-core, callOf, checked, passed, refused-by, refused-subtable, tests}
 use borrow.Author.Needs.{needs}
 use Rattle.gpos.proofs.mark_pos.mark.Statement.{statement}
 use Rattle.gpos.proofs.mark_pos.mark.Tie as tie
@@ -26,20 +26,16 @@ call c =
     (λ d. planned (a .s) (a .u) d (a .index) (planOf (a .kind) (cross d) t (slots l) (a .index)) (slots l))
 
 abbrev start : tie.After-check-call → tie.Start
-start k = k .before .before .before .before .before .before .before
+start k = k .before .before .before .before .before .before
 
 -- what its checks said
 tested : (k : tie.After-check-call) → saidDone (k .check-call .result) ≡ unless (tests (call (start k))) done
 tested k =
     let a = start k .args in
-    let g = k .before .before in
-    checked (call (start k)) (k .check-call .ensures) (ap (λ (n : ℕ). leb n (a .index)) (g .before .slot-count .ensures)) (ap not (g .is-good .ensures))
+    checked (call (start k)) (k .check-call .ensures) (ap (λ (n : ℕ). leb n (a .index)) (k .before .before .slot-count .ensures))
 
 slot-count-requires : tie.Need-slot-count-requires
 slot-count-requires c κs = search needs
-
-is-good-requires : tie.Need-is-good-requires
-is-good-requires c κs = search needs
 
 check-call-requires : tie.Need-check-call-requires
 check-call-requires c κs = search needs
@@ -50,51 +46,67 @@ enum-known-checked c = search needs
 enum-told : tie.Need-enum-told
 enum-told c = search needs
 
--- none refuses
+-- none of them refuses
 ok : (c : tie.After-enum-told) → unless (tests (call (start (c .before .before)))) done ≡ done
 ok c = sym (tested (c .before .before)) ∙ ap saidDone (c .enum-told .given .1)
 
-direction-of-requires : tie.Need-direction-of-requires
-direction-of-requires c κs = search needs
-
-attach-requires : tie.Need-attach-requires
-attach-requires c κs =
-    let s = start (c .before .before .before .before) in
-    let a = s .args in
-    let p = passed (call s) (ok (c .before .before)) in
-    (leb-false (count (a .line .now)) (a .index) (p .index), p .scale, not-false _ (p .subtable))
+is-good-requires : tie.Need-is-good-requires
+is-good-requires c κs = search needs
 
 same-length : tie.Need-same-length
 same-length c = search needs
 
 returns : tie.Need-returns
 returns c =
-    let k = c .before .before .before in
-    refused-by (call (start k)) _ (sym (tested k) ∙ ap saidDone (c .before .checked .given .1))
+    let told = c .before .before in
+    refused-subtable (call (start (told .before .before))) (ok told) (ap not (sym (c .before .is-good .ensures)) ∙ c .if1 .taken)
+
+direction-of-requires : tie.Need-direction-of-requires
+direction-of-requires c κs = search needs
+
+attach-requires : tie.Need-attach-requires
+attach-requires c κs =
+    let good = c .before .before .before in
+    let s = start (good .before .before .before) in
+    let a = s .args in
+    let p = passed (call s) (ok (good .before)) in
+    let subtable = sym (good .is-good .ensures) ∙ not-false _ (c .before .before .if1 .left) in
+    (leb-false (count (a .line .now)) (a .index) (p .place), p .scale, subtable)
 
 same-length-2 : tie.Need-same-length-2
 same-length-2 c = search needs
 
 returns-2 : tie.Need-returns-2
 returns-2 c =
+    let k = c .before .before .before in
+    refused-by (call (start k)) _ (sym (tested k) ∙ ap saidDone (c .before .checked .given .1))
+
+same-length-3 : tie.Need-same-length-3
+same-length-3 c = search needs
+
+returns-3 : tie.Need-returns-3
+returns-3 c =
     let core = c .before .before .attach in
-    let told = c .before .before .before .before .before in
+    let else = c .before .before .before .before .before in
+    let told = else .before .before in
     let k = told .before .before in
-    by-core (call (start k)) (ok told) (core .last .0) (said (core .result)) (c .before .before .before .direction-of .ensures)
-    (λ n. k .before .before .before .before .before .before .slice-known .given n .fits) (λ n. c .slice-known2 .given n .fits) (core .kept .0) (core .ensures)
+    by-core (call (start k)) (ok told) (core .last .0) (said (core .result)) (ap not (sym (else .before .is-good .ensures)) ∙ else .if1 .left)
+    (c .before .before .before .direction-of .ensures) (λ n. k .before .before .before .before .before .slice-known .given n .fits) (λ n. c .slice-known2 .given n .fits) (core .kept .0) (core .ensures)
 
 pub mark-spec : {M : Type 1} → statement M
 mark-spec =
     tie.close
     (tie.spec
     slot-count-requires
-    is-good-requires
     check-call-requires
     enum-known-checked
     enum-told
-    direction-of-requires
-    attach-requires
+    is-good-requires
     same-length
     returns
+    direction-of-requires
+    attach-requires
     same-length-2
-    returns-2)
+    returns-2
+    same-length-3
+    returns-3)
