@@ -4,6 +4,8 @@ use tables::anchor::anchor_of;
 use tables::class_def;
 use tables::coverage;
 use tables::part::table_at;
+ghost use mathlib.Core.Path.{_≡_};
+ghost use Rattle.tables_run.specs.Passes.{passing};
 
 // What is cut.
 enum Kind {
@@ -13,7 +15,9 @@ enum Kind {
 }
 
 // Whether the table at byte 2 passes: a list's check, or that there is an anchor.
-fn passes(kind: Kind, s: &[u8]) -> bool {
+fn passes(kind: Kind, s: &[u8]) -> bool
+    ensures { λ r. ⌜ r ≡ passing kind (now (s .entry)) ⌝ }
+{
     match kind {
         Kind::Coverage => coverage::good_at(s, 2),
         Kind::Classes => class_def::good_at(s, 2),
