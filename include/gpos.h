@@ -28,8 +28,8 @@
  *            8-11    x advance, signed          12-15   y advance, signed
  *            16-19   x offset, signed           20-23   y offset, signed
  *
- * gpos_get_slot and gpos_put_slot, below, read and write one. No address needs to be aligned. Advances and offsets are in your units, of which the size s has s; y grows
- * upward, as in the font. Before the first call a slot has the advances of its glyph.
+ * gpos_get_slot and gpos_put_slot, below, read and write one. No address needs to be aligned. Advances and offsets are in units of which an em has s (see below); y
+ * grows upward, as in the font. Before the first call a slot has the advances of its glyph.
  *
  *
  * WHAT A CALL ANSWERS. gpos_start and gpos_finish return 0 when done, else the number of a refusal. The others return a gpos_answer: applied, declined, or

@@ -1,4 +1,5 @@
 // Short tables cut at every byte: + where the table passes, - where it doesn't.
+use crate::labels::label_end;
 use tables::anchor::Anchor;
 use tables::anchor::anchor_of;
 use tables::class_def;
@@ -37,8 +38,7 @@ fn sign(passed: bool) {
 }
 
 // The first 0, 1, 2 .. bytes, and then all.
-fn cut(label: &[u8], kind: Kind, s: &[u8]) {
-    show::text(label);
+fn cut_each(kind: Kind, s: &[u8]) {
     let mut n = 0;
     while n < s.len() {
         sign(passes(kind, &s[0..n]));
@@ -48,24 +48,42 @@ fn cut(label: &[u8], kind: Kind, s: &[u8]) {
     show::text(b"\n");
 }
 
+// A label and the table after it.
+fn cut(kind: Kind, text: &[u8]) {
+    let n = label_end(text);
+    show::text(&text[..n]);
+    cut_each(kind, &text[n..]);
+}
+
 fn lists() {
-    let s = b"..\x00\x01\x00\x02\x00\x05\x00\x09";
-    cut(b"coverage 1 cut: ", Kind::Coverage, s);
-    let s = b"..\x00\x02\x00\x01\x00\x05\x00\x09\x00\x00";
-    cut(b"coverage 2 cut: ", Kind::Coverage, s);
-    let s = b"..\x00\x01\x00\x05\x00\x01\x00\x07";
-    cut(b"class list 1 cut: ", Kind::Classes, s);
-    let s = b"..\x00\x02\x00\x01\x00\x05\x00\x09\x00\x01";
-    cut(b"class list 2 cut: ", Kind::Classes, s);
+    cut(
+        Kind::Coverage,
+        b"coverage 1 cut: ..\x00\x01\x00\x02\x00\x05\x00\x09",
+    );
+    cut(
+        Kind::Coverage,
+        b"coverage 2 cut: ..\x00\x02\x00\x01\x00\x05\x00\x09\x00\x00",
+    );
+    cut(
+        Kind::Classes,
+        b"class list 1 cut: ..\x00\x01\x00\x05\x00\x01\x00\x07",
+    );
+    cut(
+        Kind::Classes,
+        b"class list 2 cut: ..\x00\x02\x00\x01\x00\x05\x00\x09\x00\x01",
+    );
 }
 
 fn anchors() {
-    let s = b"..\x00\x01\x00\xBD\xFF\x99";
-    cut(b"anchor 1 cut: ", Kind::Anchor, s);
-    let s = b"..\x00\x02\x01\x42\x03\x84\x00\x0D";
-    cut(b"anchor 2 cut: ", Kind::Anchor, s);
-    let s = b"..\x00\x03\x01\x17\x05\x15\x00\x0A\x00\x14";
-    cut(b"anchor 3 cut: ", Kind::Anchor, s);
+    cut(Kind::Anchor, b"anchor 1 cut: ..\x00\x01\x00\xBD\xFF\x99");
+    cut(
+        Kind::Anchor,
+        b"anchor 2 cut: ..\x00\x02\x01\x42\x03\x84\x00\x0D",
+    );
+    cut(
+        Kind::Anchor,
+        b"anchor 3 cut: ..\x00\x03\x01\x17\x05\x15\x00\x0A\x00\x14",
+    );
 }
 
 pub fn run() {

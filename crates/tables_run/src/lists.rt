@@ -1,4 +1,5 @@
 // Coverage tables and class lists.
+use crate::labels::label_end;
 use tables::class_def;
 use tables::coverage;
 use tables::coverage::Covered;
@@ -62,61 +63,109 @@ pub fn sorts(label: &[u8], s: &[u8], a: u16, b: u16, c: u16) {
     }
 }
 
+// A label and the table after it.
+fn coverage_of(text: &[u8], a: u16, b: u16, c: u16) {
+    let n = label_end(text);
+    covers(&text[..n], &text[n..], a, b, c);
+}
+
+fn classes_of(text: &[u8], a: u16, b: u16, c: u16) {
+    let n = label_end(text);
+    sorts(&text[..n], &text[n..], a, b, c);
+}
+
 fn glyph_lists() {
-    let s = b"..\x00\x01\x00\x00";
-    covers(b"coverage 1, empty", s, 0, 1, 65535);
-    let s = b"..\x00\x01\x00\x01\x00\x05";
-    covers(b"coverage 1, glyph 5", s, 4, 5, 6);
-    let s = b"..\x00\x01\x00\x03\x00\x05\x00\x09\x01\x2C";
-    covers(b"coverage 1, glyphs 5 9 300", s, 5, 9, 300);
+    coverage_of(b"coverage 1, empty..\x00\x01\x00\x00", 0, 1, 65535);
+    coverage_of(b"coverage 1, glyph 5..\x00\x01\x00\x01\x00\x05", 4, 5, 6);
+    coverage_of(
+        b"coverage 1, glyphs 5 9 300..\x00\x01\x00\x03\x00\x05\x00\x09\x01\x2C",
+        5,
+        9,
+        300,
+    );
 }
 
 fn damaged_glyph_lists() {
-    let s = b"..\x00\x01\x00\x02\x00\x09\x00\x09";
-    covers(b"coverage 1, glyphs 9 9", s, 9, 9, 9);
-    let s = b"..\x00\x01\x00\x02\x00\x09\x00\x05";
-    covers(b"coverage 1, glyphs 9 5", s, 5, 9, 9);
+    coverage_of(
+        b"coverage 1, glyphs 9 9..\x00\x01\x00\x02\x00\x09\x00\x09",
+        9,
+        9,
+        9,
+    );
+    coverage_of(
+        b"coverage 1, glyphs 9 5..\x00\x01\x00\x02\x00\x09\x00\x05",
+        5,
+        9,
+        9,
+    );
 }
 
 fn range_lists() {
-    let s = b"..\x00\x02\x00\x00";
-    covers(b"coverage 2, empty", s, 0, 1, 65535);
-    let s = b"..\x00\x02\x00\x01\x00\x0A\x00\x0C\x00\x07";
-    covers(b"coverage 2, 10 to 12 from 7", s, 10, 12, 13);
-    let s = b"..\x00\x02\x00\x01\x00\x00\xFF\xFF\xFF\xFF";
-    covers(b"coverage 2, all from 65535", s, 0, 1, 65535);
+    coverage_of(b"coverage 2, empty..\x00\x02\x00\x00", 0, 1, 65535);
+    coverage_of(
+        b"coverage 2, 10 to 12 from 7..\x00\x02\x00\x01\x00\x0A\x00\x0C\x00\x07",
+        10,
+        12,
+        13,
+    );
+    coverage_of(
+        b"coverage 2, all from 65535..\x00\x02\x00\x01\x00\x00\xFF\xFF\xFF\xFF",
+        0,
+        1,
+        65535,
+    );
 }
 
 fn damaged_range_lists() {
-    let s = b"..\x00\x02\x00\x02\x00\x05\x00\x09\x00\x00\x00\x09\x00\x0C\x00\x05";
-    covers(b"coverage 2, 5 to 9, 9 to 12", s, 9, 9, 9);
-    let s = b"..\x00\x02\x00\x01\x00\x09\x00\x05\x00\x00";
-    covers(b"coverage 2, 9 to 5", s, 5, 7, 9);
-    let s = b"..\x00\x03\x00\x00";
-    covers(b"coverage 3", s, 0, 1, 2);
+    coverage_of(
+        b"coverage 2, 5 to 9, 9 to 12..\x00\x02\x00\x02\x00\x05\x00\x09\x00\x00\x00\x09\x00\x0C\x00\x05",
+        9,
+        9,
+        9,
+    );
+    coverage_of(
+        b"coverage 2, 9 to 5..\x00\x02\x00\x01\x00\x09\x00\x05\x00\x00",
+        5,
+        7,
+        9,
+    );
+    coverage_of(b"coverage 3..\x00\x03\x00\x00", 0, 1, 2);
 }
 
 fn classes_in_order() {
-    let s = b"..\x00\x01\x00\x05\x00\x00";
-    sorts(b"class list 1, empty", s, 4, 5, 6);
-    let s = b"..\x00\x01\x00\x05\x00\x01\x00\x07";
-    sorts(b"class list 1, 5 of 7", s, 4, 5, 6);
-    let s = b"..\x00\x01\xFF\xFF\x00\x01\x00\x07";
-    sorts(b"class list 1, 65535 of 7", s, 0, 65534, 65535);
+    classes_of(b"class list 1, empty..\x00\x01\x00\x05\x00\x00", 4, 5, 6);
+    classes_of(
+        b"class list 1, 5 of 7..\x00\x01\x00\x05\x00\x01\x00\x07",
+        4,
+        5,
+        6,
+    );
+    classes_of(
+        b"class list 1, 65535 of 7..\x00\x01\xFF\xFF\x00\x01\x00\x07",
+        0,
+        65534,
+        65535,
+    );
 }
 
 fn classes_by_ranges() {
-    let s = b"..\x00\x02\x00\x00";
-    sorts(b"class list 2, empty", s, 0, 1, 65535);
-    let s = b"..\x00\x02\x00\x01\x00\x0A\x00\x0C\x00\x03";
-    sorts(b"class list 2, 10 to 12 of 3", s, 9, 12, 13);
+    classes_of(b"class list 2, empty..\x00\x02\x00\x00", 0, 1, 65535);
+    classes_of(
+        b"class list 2, 10 to 12 of 3..\x00\x02\x00\x01\x00\x0A\x00\x0C\x00\x03",
+        9,
+        12,
+        13,
+    );
 }
 
 fn damaged_class_lists() {
-    let s = b"..\x00\x02\x00\x02\x00\x05\x00\x09\x00\x01\x00\x09\x00\x0C\x00\x02";
-    sorts(b"class list 2, 5 to 9, 9 to 12", s, 9, 9, 9);
-    let s = b"..\x00\x00\x00\x00\x00\x00";
-    sorts(b"class list 0", s, 0, 1, 2);
+    classes_of(
+        b"class list 2, 5 to 9, 9 to 12..\x00\x02\x00\x02\x00\x05\x00\x09\x00\x01\x00\x09\x00\x0C\x00\x02",
+        9,
+        9,
+        9,
+    );
+    classes_of(b"class list 0..\x00\x00\x00\x00\x00\x00", 0, 1, 2);
 }
 
 pub fn run() {

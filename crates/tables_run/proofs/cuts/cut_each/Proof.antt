@@ -1,18 +1,15 @@
--- `tables_run::cuts::cut` keeps to the bounds: n is at most the length. The measure is what is left of the length. Assumes nothing.
+-- `tables_run::cuts::cut_each` keeps to the bounds: n is at most the length. The measure is what is left of the length. Assumes nothing.
 use Prim.Native.Nat.{_-_, _≤_}
 use lib.ListN.{length}
 use borrow.Author.Needs.{needs}
-use Rattle.tables_run.proofs.cuts.cut.Statement.{statement}
-use Rattle.tables_run.proofs.cuts.cut.Tie as tie
+use Rattle.tables_run.proofs.cuts.cut_each.Statement.{statement}
+use Rattle.tables_run.proofs.cuts.cut_each.Tie as tie
 
 abbrev Inv-loop : tie.InvT-loop
-Inv-loop label kind s n₀ t5 n = n ≤ length s
+Inv-loop kind s n₀ t5 n = n ≤ length s
 
 abbrev μ-loop : tie.MeasureT-loop
-μ-loop label kind s n₀ t5 n = length s - n
-
-text-requires : tie.Need-text-requires Inv-loop μ-loop
-text-requires c κs = search needs
+μ-loop kind s n₀ t5 n = length s - n
 
 loop-holds : tie.Need-loop-holds Inv-loop μ-loop
 loop-holds c = search needs
@@ -50,19 +47,18 @@ sign-requires-2 c κs = search needs
 slice-aggregate-text : tie.Need-slice-aggregate-text Inv-loop μ-loop
 slice-aggregate-text c = search needs
 
-text-requires-2 : tie.Need-text-requires-2 Inv-loop μ-loop
-text-requires-2 c κs = search needs
+text-requires : tie.Need-text-requires Inv-loop μ-loop
+text-requires c κs = search needs
 
 returns : tie.Need-returns Inv-loop μ-loop
 returns c = search needs
 
-pub cut-spec : {M : Type 1} → statement M
-cut-spec =
+pub cut-each-spec : {M : Type 1} → statement M
+cut-each-spec =
     tie.close
     (tie.spec
     Inv-loop
     μ-loop
-    text-requires
     loop-holds
     sub-passes
     part-passes-start
@@ -75,5 +71,5 @@ cut-spec =
     passes-requires-2
     sign-requires-2
     slice-aggregate-text
-    text-requires-2
+    text-requires
     returns)
