@@ -2,7 +2,7 @@
  *
  * Link with libgpos_c.a, which `rt staticlib gpos_c` writes to target/staticlib/. It is for x86-64 Linux, allocates nothing, keeps no state, calls
  * nothing and may be used from any number of threads at once. Of stack, gpos_cursive takes up to 82,200 bytes, for an old chain through a whole line (80 a
- * slot), gpos_finish up to 4,216, and every other call up to 464 (measured).
+ * slot), gpos_finish up to 4,216; the other calls took up to 464 where they were measured, one applied call of each.
  *
  * A label is a LINE: up to 1,024 glyph slots of 24 bytes each, one after the other, in memory that you lend for the call. A call starts a line, applies one
  * GPOS subtable at one glyph, or finishes the line:
