@@ -4,7 +4,7 @@ use mathlib.Core.List.{List, [], _∷_}
 use Prim.Native.Nat.{ℕ}
 use lib.Dec.{eqb}
 use Rattle.ints.specs.Choice.{if_then_else_}
-use Rattle.answers.specs.Said.{Range, break, concat, Said, applied, declined, refused, done, range, ranges, refusalNumber, said, saidDone}
+use Rattle.answers.specs.Said.{Range, break, concat, Said, applied, declined, refused, done, range, ranges, refusalNumber, said, saidDone, saidMoved}
 use Rattle.answers.specs.declared.Kind.{Kind}
 use Rattle.answers.specs.declared.Kind.the-variants.{Break, Concat}
 use Rattle.answers.specs.declared.Hazard.{Hazard}
@@ -14,6 +14,8 @@ use Rattle.answers.specs.declared.Refusal.{Refusal}
 use Rattle.answers.specs.declared.Refusal.the-variants.{Line, Direction, Number, Slot, Index, Subtable, Endless}
 use Rattle.answers.specs.declared.Answer.{Answer}
 use Rattle.answers.specs.declared.Answer.the-variants.{Applied, Declined, Refused}
+use Rattle.answers.specs.declared.Moved.{Moved}
+use Rattle.answers.specs.declared.Moved.the-variants.{Done as MovedNow, Refused as NotMoved, Unfit}
 use Rattle.answers.specs.declared.Done.{Done}
 use Rattle.answers.specs.declared.Done.the-variants.{Done as DoneNow, Refused as NotDone}
 
@@ -49,6 +51,12 @@ unsaidDone (applied n rs a) = DoneNow
 unsaidDone (declined rs) = DoneNow
 unsaidDone done = DoneNow
 
+abbrev unsaidMoved : Said → Moved
+unsaidMoved (refused n) = if eqb n 10 then Unfit else NotMoved (refusalOf n)
+unsaidMoved (applied n rs a) = MovedNow
+unsaidMoved (declined rs) = MovedNow
+unsaidMoved done = MovedNow
+
 refusal-back : (r : Refusal) → refusalOf (refusalNumber r) ≡ r
 refusal-back Line = refl
 refusal-back Direction = refl
@@ -79,6 +87,17 @@ saidDone-back : (r : Done) → unsaidDone (saidDone r) ≡ r
 saidDone-back DoneNow = refl
 saidDone-back (NotDone r) = ap NotDone (refusal-back r)
 
+saidMoved-back : (r : Moved) → unsaidMoved (saidMoved r) ≡ r
+saidMoved-back MovedNow = refl
+saidMoved-back (NotMoved Line) = refl
+saidMoved-back (NotMoved Direction) = refl
+saidMoved-back (NotMoved Number) = refl
+saidMoved-back (NotMoved Slot) = refl
+saidMoved-back (NotMoved Index) = refl
+saidMoved-back (NotMoved Subtable) = refl
+saidMoved-back (NotMoved Endless) = refl
+saidMoved-back Unfit = refl
+
 -- what can be told from its image is the same where its image is
 from-back : {A B : Type 0} (f : A → B) (g : B → A) → ((x : A) → g (f x) ≡ x) → (x y : A) → f x ≡ f y → x ≡ y
 from-back f g back x y e = sym (back x) ∙ ap g e ∙ back y
@@ -89,3 +108,6 @@ said-same = from-back said unsaid said-back
 
 pub saidDone-same : (r q : Done) → saidDone r ≡ saidDone q → r ≡ q
 saidDone-same = from-back saidDone unsaidDone saidDone-back
+
+pub saidMoved-same : (r q : Moved) → saidMoved r ≡ saidMoved q → r ≡ q
+saidMoved-same = from-back saidMoved unsaidMoved saidMoved-back

@@ -12,6 +12,8 @@ use Rattle.answers.specs.declared.Refusal.{Refusal}
 use Rattle.answers.specs.declared.Refusal.the-variants.{Line, Direction, Number, Slot, Index, Subtable, Endless}
 use Rattle.answers.specs.declared.Answer.{Answer}
 use Rattle.answers.specs.declared.Answer.the-variants.{Applied, Declined, Refused}
+use Rattle.answers.specs.declared.Moved.{Moved}
+use Rattle.answers.specs.declared.Moved.the-variants.{Done as MovedNow, Refused as NotMoved, Unfit}
 use Rattle.answers.specs.declared.Done.{Done}
 use Rattle.answers.specs.declared.Done.the-variants.{Done as DoneNow, Refused as NotDone}
 
@@ -21,14 +23,14 @@ pub data Range : Type 0 where
   concat : ℕ → ℕ → Range
 
 -- What a call says. Applied: the next index, the hazards in order, whether it attached. Declined: one hazard or none. Refused: a number of the table.
--- Starting and finishing say only "done".
+-- Starting, finishing and the moves say only "done".
 pub data Said : Type 0 where
   applied : ℕ → List Range → Bool → Said
   declined : List Range → Said
   refused : ℕ → Said
   done : Said
 
--- the table of refusals
+-- the table of refusals, of document 01
 abbrev pub refusalNumber : Refusal → ℕ
 refusalNumber Line = 1
 refusalNumber Direction = 2
@@ -55,6 +57,12 @@ abbrev pub said : Answer → Said
 said (Applied n hs a) = applied n (ranges hs) a
 said (Declined hs) = declined (ranges hs)
 said (Refused r) = refused (refusalNumber r)
+
+-- what a move says; its own number is document 02's
+abbrev pub saidMoved : Moved → Said
+saidMoved MovedNow = done
+saidMoved (NotMoved r) = refused (refusalNumber r)
+saidMoved Unfit = refused 10
 
 abbrev pub saidDone : Done → Said
 saidDone DoneNow = done

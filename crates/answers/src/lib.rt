@@ -60,7 +60,7 @@ pub fn concat_from(start: usize, end: usize) -> Hazards
 
 // Why a call is refused, in the order of document 01's table, 1 to 7.
 pub enum Refusal {
-    // The line's length is no multiple of 24, or above 24,576.
+    // A slot has no such size; or the line's length is no multiple of it, or above 1,024 slots'.
     Line,
     // The direction is above 3.
     Direction,
@@ -102,6 +102,14 @@ pub enum Answer {
         hazards: Hazards,
     },
     Refused(Refusal),
+}
+
+// What the moves answer.
+pub enum Moved {
+    Done,
+    Refused(Refusal),
+    // Refusal 10, which is theirs alone: the target isn't exactly as long as the moved line, or a cluster would be lost.
+    Unfit,
 }
 
 // What starting and finishing answer.

@@ -39,6 +39,7 @@ glyphSlot g type chain xa ya xo yo =
       yAdvance = ya;
       xOffset = xo;
       yOffset = yo;
+      cluster = 0;
     }
 
 -- a slot that is attached across a horizontal line

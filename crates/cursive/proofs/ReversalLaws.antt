@@ -23,7 +23,8 @@ use Rattle.slots.specs.declared.parent.Parent.the-variants.{None, Outside, At}
 use Rattle.slots.proofs.LineLaws.{length-update}
 use Rattle.slots.proofs.ParentLaws.{cleared-count, cleared-is, cleared-other, cleared-own, parent-none}
 use Rattle.counts.proofs.TallyLaws.{tally-drop}
-use Rattle.cursive.specs.Chains.{attachedCount, isAttached, reach}
+use Rattle.slots.specs.Parent.{isAttached}
+use Rattle.cursive.specs.Chains.{attachedCount, reach}
 use Rattle.cursive.specs.Reversal.{reversed, reversedIn, turned}
 
 -- ---- a parent hung onto its child

@@ -1,14 +1,13 @@
 -- Chains as numbers of 16 bits. Assumes nothing.
-use mathlib.Core.Bool.{Bool, not}
 use mathlib.Core.List.{List}
 use Prim.Native.Nat.{ℕ}
-use lib.Dec.{eqb, ltb}
-use lib.IntN.{ℤ, pos, natAbs, _-ℤ_}
+use lib.Dec.{ltb}
+use lib.IntN.{ℤ, pos, _-ℤ_}
 use lib.ListN.{length}
 use lib.Signed.{mag}
 use Rattle.ints.specs.Choice.{if_then_else_}
 use Rattle.slots.specs.Slot.{Slot}
-use Rattle.slots.specs.Line.{slot}
+use Rattle.slots.specs.Parent.{isAttached}
 use Rattle.counts.specs.Tally.{tally}
 
 -- the chain for a distance: 0, not attached, where the distance doesn't fit 16 bits
@@ -18,10 +17,6 @@ reach z = if ltb (mag z) 32768 then z else pos 0
 -- the chain by which a child hangs on a parent
 abbrev pub chainTo : ℕ → ℕ → ℤ
 chainTo child parent = reach (pos parent -ℤ pos child)
-
--- is slot i attached?
-abbrev pub isAttached : List Slot → ℕ → Bool
-isAttached ss i = not (eqb (natAbs (slot ss i .chain)) 0)
 
 -- how many slots are attached
 unfoldable pub attachedCount : List Slot → ℕ

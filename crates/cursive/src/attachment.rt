@@ -16,6 +16,7 @@ use ints::scale::scale;
 use slots::axis::Axis;
 use slots::axis::Direction;
 use slots::fields::Measure;
+use slots::shape::Shape;
 use tables::anchor::Point;
 use tables::anchor::coordinate_on;
 ghost use mathlib.Core.Bool.{true};
@@ -23,7 +24,7 @@ ghost use mathlib.Core.Path.{_≡_};
 ghost use Prim.Native.Nat.{_<_};
 ghost use Rattle.ints.specs.Scale.{InScale};
 ghost use Rattle.ints.specs.Signed.{InBytes, val};
-ghost use Rattle.slots.specs.Line.{count, slots, update};
+ghost use Rattle.slots.specs.Line.{Inside, slots, update};
 ghost use Rattle.tables.specs.Anchor.{Near16, spotOf};
 ghost use Rattle.answers.specs.Outcome.{Effect};
 ghost use Rattle.answers.specs.Said.{said};
@@ -40,80 +41,83 @@ fn scaled_at(p: Point, a: Axis, s: u32, u: u32) -> Signed
 }
 
 // The glyph ends at its anchor.
-fn end_at(line: &mut [u8], i: usize, a: Axis, z: Signed)
-    requires { ⌜ i < count (now line) ⌝ }
-    ensures { λ _. ⌜ slots (now (line .exit)) ≡ update i (ended a (val z)) (slots (now (line .entry))) ⌝ }
+fn end_at(line: &mut [u8], shape: Shape, i: usize, a: Axis, z: Signed)
+    requires { ⌜ Inside shape (now line) i ⌝ }
+    ensures { λ _. ⌜ slots shape (now (line .exit)) ≡ update i (ended a (val z)) (slots shape (now (line .entry))) ⌝ }
 {
-    let offset = slots::fields::get(line, i, Measure::Offset, a);
-    slots::fields::set(line, i, Measure::Advance, a, sat_add(z, offset));
+    let offset = slots::fields::get(line, shape, i, Measure::Offset, a);
+    slots::fields::set(line, shape, i, Measure::Advance, a, sat_add(z, offset));
 }
 
 // The glyph is pulled back to its anchor.
-fn pull_to(line: &mut [u8], i: usize, a: Axis, z: Signed)
-    requires { ⌜ i < count (now line) ⌝ }
-    ensures { λ _. ⌜ slots (now (line .exit)) ≡ update i (pulled a (val z)) (slots (now (line .entry))) ⌝ }
+fn pull_to(line: &mut [u8], shape: Shape, i: usize, a: Axis, z: Signed)
+    requires { ⌜ Inside shape (now line) i ⌝ }
+    ensures { λ _. ⌜ slots shape (now (line .exit)) ≡ update i (pulled a (val z)) (slots shape (now (line .entry))) ⌝ }
 {
-    let offset = slots::fields::get(line, i, Measure::Offset, a);
-    let advance = slots::fields::get(line, i, Measure::Advance, a);
+    let offset = slots::fields::get(line, shape, i, Measure::Offset, a);
+    let advance = slots::fields::get(line, shape, i, Measure::Advance, a);
     let by = sat_add(z, offset);
-    slots::fields::set(line, i, Measure::Advance, a, sat_sub(advance, by));
-    slots::fields::set(line, i, Measure::Offset, a, sat_sub(offset, by));
+    slots::fields::set(line, shape, i, Measure::Advance, a, sat_sub(advance, by));
+    slots::fields::set(line, shape, i, Measure::Offset, a, sat_sub(offset, by));
 }
 
 // What becomes of the previous glyph, along the line.
-fn join_previous(line: &mut [u8], d: Direction, i: usize, z: Signed)
-    requires { ⌜ i < count (now line) ⌝ }
-    ensures { λ _. ⌜ slots (now (line .exit)) ≡ update i (previousJoined d (val z)) (slots (now (line .entry))) ⌝ }
+fn join_previous(line: &mut [u8], shape: Shape, d: Direction, i: usize, z: Signed)
+    requires { ⌜ Inside shape (now line) i ⌝ }
+    ensures { λ _. ⌜ slots shape (now (line .exit)) ≡ update i (previousJoined d (val z)) (slots shape (now (line .entry))) ⌝ }
 {
     match d {
-        Direction::LeftToRight => end_at(line, i, Axis::X, z),
-        Direction::RightToLeft => pull_to(line, i, Axis::X, z),
-        Direction::TopToBottom => end_at(line, i, Axis::Y, z),
-        Direction::BottomToTop => pull_to(line, i, Axis::Y, z),
+        Direction::LeftToRight => end_at(line, shape, i, Axis::X, z),
+        Direction::RightToLeft => pull_to(line, shape, i, Axis::X, z),
+        Direction::TopToBottom => end_at(line, shape, i, Axis::Y, z),
+        Direction::BottomToTop => pull_to(line, shape, i, Axis::Y, z),
     }
 }
 
 // What becomes of this glyph. Bottom to top its advance becomes the entry alone, as in the source.
-fn join_this(line: &mut [u8], d: Direction, i: usize, z: Signed)
-    requires { ⌜ i < count (now line) ⌝ }
-    ensures { λ _. ⌜ slots (now (line .exit)) ≡ update i (thisJoined d (val z)) (slots (now (line .entry))) ⌝ }
+fn join_this(line: &mut [u8], shape: Shape, d: Direction, i: usize, z: Signed)
+    requires { ⌜ Inside shape (now line) i ⌝ }
+    ensures { λ _. ⌜ slots shape (now (line .exit)) ≡ update i (thisJoined d (val z)) (slots shape (now (line .entry))) ⌝ }
 {
     match d {
-        Direction::LeftToRight => pull_to(line, i, Axis::X, z),
-        Direction::RightToLeft => end_at(line, i, Axis::X, z),
-        Direction::TopToBottom => pull_to(line, i, Axis::Y, z),
-        Direction::BottomToTop => slots::fields::set(line, i, Measure::Advance, Axis::Y, z),
+        Direction::LeftToRight => pull_to(line, shape, i, Axis::X, z),
+        Direction::RightToLeft => end_at(line, shape, i, Axis::X, z),
+        Direction::TopToBottom => pull_to(line, shape, i, Axis::Y, z),
+        Direction::BottomToTop => slots::fields::set(line, shape, i, Measure::Advance, Axis::Y, z),
     }
 }
 
 // The parent separated, if it was attached to the child, which hangs on it by `chain`.
-fn separate(line: &mut [u8], a: Axis, parent: usize, chain: Signed)
-    requires { ⌜ (parent < count (now line)) × InBytes 2 (val chain) ⌝ }
-    ensures { λ _. ⌜ slots (now (line .exit)) ≡ separatedBy a (val chain) parent (slots (now (line .entry))) ⌝ }
+fn separate(line: &mut [u8], shape: Shape, a: Axis, parent: usize, chain: Signed)
+    requires { ⌜ Inside shape (now line) parent × InBytes 2 (val chain) ⌝ }
+    ensures { λ _. ⌜ slots shape (now (line .exit)) ≡ separatedBy a (val chain) parent (slots shape (now (line .entry))) ⌝ }
 {
     let back = sat_neg(chain);
-    if slots::fields::chain(line, parent) != back {
+    if slots::fields::chain(line, shape, parent) != back {
         return;
     }
-    slots::fields::set(line, parent, Measure::Offset, a, 0);
-    slots::fields::set_chain(line, parent, 0);
+    slots::fields::set(line, shape, parent, Measure::Offset, a, 0);
+    slots::fields::set_chain(line, shape, parent, 0);
 }
 
 // The child hangs on the parent with a cross offset; an old chain of the child is reversed first, so that it hangs off the new parent. If the parent was
 // attached to the child, they are separated.
-fn tie(line: &mut [u8], a: Axis, child: usize, parent: usize, z: Signed)
-    requires { ⌜ (child < count (now line)) × (parent < count (now line)) ⌝ }
-    ensures { λ _. ⌜ slots (now (line .exit)) ≡ tied a child parent (val z) (slots (now (line .entry))) ⌝ }
+fn tie(line: &mut [u8], shape: Shape, a: Axis, child: usize, parent: usize, z: Signed)
+    requires { ⌜ Inside shape (now line) child × Inside shape (now line) parent ⌝ }
+    ensures { λ _. ⌜ slots shape (now (line .exit)) ≡ tied a child parent (val z) (slots shape (now (line .entry))) ⌝ }
 {
-    reverse(line, a, child, parent);
+    let size = shape.size;
+    let n = shape.count;
+    reverse(line, size, n, a, child, parent);
     let chain = chain_to(child, parent);
-    hang(line, child, 2, chain, a, z);
-    separate(line, a, parent, chain);
+    hang(line, shape, child, 2, chain, a, z);
+    separate(line, shape, a, parent, chain);
 }
 
 // Child and parent by the lookup flag, and the cross offset between them.
 fn cross_over(
     line: &mut [u8],
+    shape: Shape,
     a: Axis,
     flag: u32,
     i: usize,
@@ -121,20 +125,21 @@ fn cross_over(
     exit: Signed,
     entry: Signed,
 )
-    requires { ⌜ (i < count (now line)) × (idx < count (now line)) ⌝ }
-    ensures { λ _. ⌜ slots (now (line .exit)) ≡ crossed a (rightToLeft flag) i idx (val exit) (val entry) (slots (now (line .entry))) ⌝ }
+    requires { ⌜ Inside shape (now line) i × Inside shape (now line) idx ⌝ }
+    ensures { λ _. ⌜ slots shape (now (line .exit)) ≡ crossed a (rightToLeft flag) i idx (val exit) (val entry) (slots shape (now (line .entry))) ⌝ }
 {
     let between = sat_sub(entry, exit);
     if flag % 2 == 1 {
-        tie(line, a, i, idx, between);
+        tie(line, shape, a, i, idx, between);
         return;
     }
-    tie(line, a, idx, i, sat_neg(between));
+    tie(line, shape, a, idx, i, sat_neg(between));
 }
 
 // The previous slot i and slot idx are joined.
 fn join(
     line: &mut [u8],
+    shape: Shape,
     d: Direction,
     s: u32,
     u: u32,
@@ -144,15 +149,16 @@ fn join(
     exit: Point,
     entry: Point,
 )
-    requires { ⌜ (i < idx) × (idx < count (now line)) × InScale s u × Near16 exit × Near16 entry ⌝ }
-    ensures { λ _. ⌜ slots (now (line .exit)) ≡ joinedAt s u d flag i idx (spotOf exit) (spotOf entry) (slots (now (line .entry))) ⌝ }
+    requires { ⌜ (i < idx) × Inside shape (now line) idx × InScale s u × Near16 exit × Near16 entry ⌝ }
+    ensures { λ _. ⌜ slots shape (now (line .exit)) ≡ joinedAt s u d flag i idx (spotOf exit) (spotOf entry) (slots shape (now (line .entry))) ⌝ }
 {
     let along = slots::axis::main_axis(d);
     let across = slots::axis::cross_axis(d);
-    join_previous(line, d, i, scaled_at(exit, along, s, u));
-    join_this(line, d, idx, scaled_at(entry, along, s, u));
+    join_previous(line, shape, d, i, scaled_at(exit, along, s, u));
+    join_this(line, shape, d, idx, scaled_at(entry, along, s, u));
     cross_over(
         line,
+        shape,
         across,
         flag,
         i,
@@ -165,6 +171,7 @@ fn join(
 // The core: everything has been checked.
 pub fn attach(
     line: &mut [u8],
+    shape: Shape,
     t: &[u8],
     d: Direction,
     s: u32,
@@ -173,14 +180,14 @@ pub fn attach(
     previous: Neighbour,
     flag: u32,
 ) -> Answer
-    requires { ⌜ (idx < count (now line)) × Before idx previous × InScale s u × (cursiveGood (now t) ≡ true) ⌝ }
-    ensures { λ r. ⌜ Effect (slots (now (line .entry))) (planSaid idx (planOf (now (t .entry)) (slots (now (line .entry))) idx previous)) (planned s u d flag idx (planOf (now (t .entry)) (slots (now (line .entry))) idx previous) (slots (now (line .entry)))) (said r) (slots (now (line .exit))) ⌝ }
+    requires { ⌜ Inside shape (now line) idx × Before idx previous × InScale s u × (cursiveGood (now t) ≡ true) ⌝ }
+    ensures { λ r. ⌜ Effect (slots shape (now (line .entry))) (planSaid idx (planOf (now (t .entry)) (slots shape (now (line .entry))) idx previous)) (planned s u d flag idx (planOf (now (t .entry)) (slots shape (now (line .entry))) idx previous) (slots shape (now (line .entry)))) (said r) (slots shape (now (line .exit))) ⌝ }
 {
-    let decision = decide(line, t, idx, previous);
+    let decision = decide(line, shape, t, idx, previous);
     match decision {
         Decision::Stop(hazards) => Answer::Declined { hazards: hazards },
         Decision::Join(i, exit, entry) => {
-            join(line, d, s, u, flag, i, idx, exit, entry);
+            join(line, shape, d, s, u, flag, i, idx, exit, entry);
             Answer::Applied {
                 next: idx + 1,
                 hazards: Hazards::One(break_range(i, idx + 1)),

@@ -4,11 +4,12 @@ use ints::saturating::sat_neg;
 use slots::axis::Axis;
 use slots::fields::ByteField;
 use slots::fields::Measure;
+use slots::shape::Shape;
 ghost use mathlib.Core.Path.{_≡_};
 ghost use Prim.Native.Nat.{_<_, _≤_};
 ghost use lib.IntN.{natAbs, negℤ};
 ghost use Rattle.ints.specs.Signed.{InBytes, val};
-ghost use Rattle.slots.specs.Line.{count, slots, update};
+ghost use Rattle.slots.specs.Line.{Inside, slots, update};
 ghost use Rattle.slots.specs.Fields.{attached, withMeasure};
 ghost use Rattle.slots.specs.declared.fields.Measure.the-variants.{Offset};
 ghost use Rattle.cursive.specs.Chains.{chainTo, reach};
@@ -43,11 +44,11 @@ pub fn chain_back(chain: Signed) -> Signed
 }
 
 // Slot i hung by a type and a chain, with an offset on an axis.
-pub fn hang(line: &mut [u8], i: usize, kind: u8, chain: Signed, a: Axis, z: Signed)
-    requires { ⌜ (i < count (now line)) × InBytes 2 (val chain) ⌝ }
-    ensures { λ _. ⌜ slots (now (line .exit)) ≡ update i (λ s. attached kind (val chain) (withMeasure Offset a (val z) s)) (slots (now (line .entry))) ⌝ }
+pub fn hang(line: &mut [u8], shape: Shape, i: usize, kind: u8, chain: Signed, a: Axis, z: Signed)
+    requires { ⌜ Inside shape (now line) i × InBytes 2 (val chain) ⌝ }
+    ensures { λ _. ⌜ slots shape (now (line .exit)) ≡ update i (λ s. attached kind (val chain) (withMeasure Offset a (val z) s)) (slots shape (now (line .entry))) ⌝ }
 {
-    slots::fields::set(line, i, Measure::Offset, a, z);
-    slots::fields::set_chain(line, i, chain);
-    slots::fields::set_byte(line, i, ByteField::AttachType, kind);
+    slots::fields::set(line, shape, i, Measure::Offset, a, z);
+    slots::fields::set_chain(line, shape, i, chain);
+    slots::fields::set_byte(line, shape, i, ByteField::AttachType, kind);
 }

@@ -3,6 +3,7 @@ use answers::Hazards;
 use answers::Neighbour;
 use answers::concat_from;
 use ints::big_endian::read_u16;
+use slots::shape::Shape;
 use tables::anchor::Anchor;
 use tables::anchor::Point;
 use tables::anchor::anchor_of;
@@ -10,7 +11,7 @@ use tables::coverage::Covered;
 ghost use mathlib.Core.Bool.{true};
 ghost use mathlib.Core.Path.{_≡_};
 ghost use Prim.Native.Nat.{_+_, _<_};
-ghost use Rattle.slots.specs.Line.{count, slots};
+ghost use Rattle.slots.specs.Line.{Inside, slots};
 ghost use Rattle.tables.specs.Anchor.{AnchorNear, Near16, spot, spotOf};
 ghost use Rattle.cursive.specs.CursivePos.{cursiveGood, fromEntry, fromExit, fromNeighbour, fromPrevious, indexOf, planOf, recordAnchor};
 ghost use Rattle.cursive.specs.Meant.{Before, meant, Sound};
@@ -77,9 +78,16 @@ fn from_previous(t: &[u8], idx: usize, i: usize, entry: Point, covered: Covered)
     }
 }
 
-fn from_neighbour(line: &[u8], t: &[u8], idx: usize, previous: Neighbour, entry: Point) -> Decision
-    requires { ⌜ (idx < count (now line)) × Before idx previous × Near16 entry × (cursiveGood (now t) ≡ true) ⌝ }
-    ensures { λ r. ⌜ (meant r ≡ fromNeighbour (now (t .entry)) (slots (now (line .entry))) idx previous (spotOf entry)) × Sound idx r ⌝ }
+fn from_neighbour(
+    line: &[u8],
+    shape: Shape,
+    t: &[u8],
+    idx: usize,
+    previous: Neighbour,
+    entry: Point,
+) -> Decision
+    requires { ⌜ Inside shape (now line) idx × Before idx previous × Near16 entry × (cursiveGood (now t) ≡ true) ⌝ }
+    ensures { λ r. ⌜ (meant r ≡ fromNeighbour (now (t .entry)) (slots shape (now (line .entry))) idx previous (spotOf entry)) × Sound idx r ⌝ }
 {
     match previous {
         Neighbour::At(i) => from_previous(
@@ -87,30 +95,37 @@ fn from_neighbour(line: &[u8], t: &[u8], idx: usize, previous: Neighbour, entry:
             idx,
             i,
             entry,
-            index_of(t, slots::fields::glyph(line, i)),
+            index_of(t, slots::fields::glyph(line, shape, i)),
         ),
         Neighbour::Missing(f) => Decision::Stop(concat_from(f, idx + 1)),
     }
 }
 
-fn from_entry(line: &[u8], t: &[u8], idx: usize, previous: Neighbour, entry: Anchor) -> Decision
-    requires { ⌜ (idx < count (now line)) × Before idx previous × AnchorNear entry × (cursiveGood (now t) ≡ true) ⌝ }
-    ensures { λ r. ⌜ (meant r ≡ fromEntry (now (t .entry)) (slots (now (line .entry))) idx previous (spot entry)) × Sound idx r ⌝ }
+fn from_entry(
+    line: &[u8],
+    shape: Shape,
+    t: &[u8],
+    idx: usize,
+    previous: Neighbour,
+    entry: Anchor,
+) -> Decision
+    requires { ⌜ Inside shape (now line) idx × Before idx previous × AnchorNear entry × (cursiveGood (now t) ≡ true) ⌝ }
+    ensures { λ r. ⌜ (meant r ≡ fromEntry (now (t .entry)) (slots shape (now (line .entry))) idx previous (spot entry)) × Sound idx r ⌝ }
 {
     match entry {
-        Anchor::At(p) => from_neighbour(line, t, idx, previous, p),
+        Anchor::At(p) => from_neighbour(line, shape, t, idx, previous, p),
         Anchor::Absent => Decision::Stop(Hazards::None),
     }
 }
 
 // What is to be done for slot idx, whose neighbour before it the caller names.
-pub fn decide(line: &[u8], t: &[u8], idx: usize, previous: Neighbour) -> Decision
-    requires { ⌜ (idx < count (now line)) × Before idx previous × (cursiveGood (now t) ≡ true) ⌝ }
-    ensures { λ r. ⌜ (meant r ≡ planOf (now (t .entry)) (slots (now (line .entry))) idx previous) × Sound idx r ⌝ }
+pub fn decide(line: &[u8], shape: Shape, t: &[u8], idx: usize, previous: Neighbour) -> Decision
+    requires { ⌜ Inside shape (now line) idx × Before idx previous × (cursiveGood (now t) ≡ true) ⌝ }
+    ensures { λ r. ⌜ (meant r ≡ planOf (now (t .entry)) (slots shape (now (line .entry))) idx previous) × Sound idx r ⌝ }
 {
-    let covered = index_of(t, slots::fields::glyph(line, idx));
+    let covered = index_of(t, slots::fields::glyph(line, shape, idx));
     match covered {
-        Covered::At(k) => from_entry(line, t, idx, previous, record_anchor(t, k, 0)),
+        Covered::At(k) => from_entry(line, shape, t, idx, previous, record_anchor(t, k, 0)),
         Covered::Not => Decision::Stop(Hazards::None),
     }
 }

@@ -1,28 +1,32 @@
 -- The ways through `settle`: p is what code found to be slot i's parent, l₁ the line with its chain cleared. Assumes nothing.
-use mathlib.Core.Bool.{true, false}
+use mathlib.Core.Bool.{Bool, true, false}
 use mathlib.Core.List.{List}
 use mathlib.Core.Path.{_≡_, sym, ap, _∙_}
 use Prim.Native.Nat.{ℕ, suc, _+_, _-_, _<_}
 use native.Mathlib.Nat.{pos-of-ne-zero}
 use native.Mathlib.Numerals.{add-one}
 use native.Mathlib.Omega.{arith}
-use Rattle.ints.specs.Signed.{signed, val}
+use borrow.Author.Tests.{eqb-true, not-false}
+use lib.IntN.{natAbs}
+use Rattle.ints.specs.Signed.{val}
+use Rattle.ints.proofs.SizeLaws.{abs-zero}
 use Rattle.slots.specs.Axis.{forward}
 use Rattle.slots.specs.Slot.{Slot}
-use Rattle.slots.specs.Line.{count, slot, slots, update}
+use Rattle.slots.specs.Line.{slot, slots, update}
 use Rattle.slots.specs.Fields.{withChain}
-use Rattle.slots.specs.Parent.{cleared, parent}
+use Rattle.slots.specs.Parent.{cleared, isAttached, parent}
 use Rattle.slots.specs.declared.axis.Direction.{Direction}
 use Rattle.slots.specs.declared.parent.Parent.{Parent}
 use Rattle.slots.specs.declared.parent.Parent.the-variants.{None, Outside, At}
+use Rattle.slots.specs.declared.shape.Shape.{Shape}
 use Rattle.slots.proofs.LineLaws.{length-slots}
 use Rattle.slots.proofs.ParentLaws.{cleared-is, parent-in-line, parent-none}
 use Rattle.finish.specs.Finish.{finished, joined, settled, settledDown, settledUp}
 use Rattle.finish.proofs.SettledLaws.{settled-at, settled-none, settled-outside, settled-stop}
 
 -- a parent in the line is a slot of its bytes
-pub parent-counted : (l : List ℕ) (i j : ℕ) {p : Parent} → p ≡ parent (slots l) i → p ≡ At j → j < count l
-parent-counted l i j is e = omega (arith, parent-in-line (slots l) i j (sym is ∙ e), length-slots l)
+pub parent-counted : (w : Shape) (l : List ℕ) (i j : ℕ) {p : Parent} → p ≡ parent (slots w l) i → p ≡ At j → j < w .count
+parent-counted w l i j is e = omega (arith, parent-in-line (slots w l) i j (sym is ∙ e), length-slots w l)
 
 module _ (d : Direction) (n : ℕ) (l : List Slot) (i : ℕ) {p : Parent} (is : p ≡ parent l i) where
   pub settles-none : p ≡ None → l ≡ settled d n l i
@@ -45,10 +49,11 @@ module _ (d : Direction) (n : ℕ) (l : List Slot) (i : ℕ) {p : Parent} (is : 
         joins ∙ ap (λ m. joined d m i j) (up ∙ ap (λ m. settled d (n - 1) m j) is-cleared)
         ∙ sym (settled-at d l i (n - 1) j (sym is ∙ e)) ∙ ap (λ (m : ℕ). settled d m l i) (sym one)
 
--- a chain that is 0, as code reads it: v
-pub settles-unattached : (d : Direction) (n : ℕ) (l : List Slot) (i : ℕ) {v : ℕ} → val v ≡ slot l i .chain → v ≡ 0 → l ≡ settled d n l i
-unfolding signed
-settles-unattached d n l i is zero-is = sym (settled-none d l i n (parent-none l i (sym is ∙ ap val zero-is)))
+-- a slot that isn't attached, as code tests it: b
+pub settles-unattached : (d : Direction) (n : ℕ) (l : List Slot) (i : ℕ) {b : Bool} → b ≡ isAttached l i → b ≡ false → l ≡ settled d n l i
+settles-unattached d n l i is off =
+    let none : natAbs (slot l i .chain) ≡ 0 = eqb-true (natAbs (slot l i .chain)) 0 (not-false _ (sym is ∙ off)) in
+    sym (settled-none d l i n (parent-none l i (abs-zero (slot l i .chain) none)))
 
 -- ---- the loops
 module _ (d : Direction) (limit : ℕ) where
@@ -70,11 +75,11 @@ module _ (d : Direction) (limit : ℕ) where
   down-done m i out left = ap (settledDown d limit m) (sym out) ∙ left
 
   -- all slots settled, upward or downward by the direction, is the line finished
-  module _ (l : List ℕ) {m : List Slot} where
-    pub finished-up : forward d ≡ true → m ≡ settledUp d limit (slots l) (count l) → m ≡ finished d limit true (slots l)
+  module _ (w : Shape) (l : List ℕ) {m : List Slot} where
+    pub finished-up : forward d ≡ true → m ≡ settledUp d limit (slots w l) (w .count) → m ≡ finished d limit true (slots w l)
     unfolding finished
-    finished-up f all = rw (f, length-slots l) all
+    finished-up f all = rw (f, length-slots w l) all
 
-    pub finished-down : forward d ≡ false → m ≡ settledDown d limit (slots l) (count l) → m ≡ finished d limit true (slots l)
+    pub finished-down : forward d ≡ false → m ≡ settledDown d limit (slots w l) (w .count) → m ≡ finished d limit true (slots w l)
     unfolding finished
-    finished-down f all = rw (f, length-slots l) all
+    finished-down f all = rw (f, length-slots w l) all

@@ -1,16 +1,17 @@
 -- What bytes can hold before finishing, they can hold after it. Assumes nothing.
 use mathlib.Core.Bool.{Bool, true, false}
 use mathlib.Core.List.{List, [], _∷_}
-use Prim.Native.Nat.{ℕ, zero, suc}
+use Prim.Native.Nat.{ℕ, zero, suc, _-_}
 use native.Mathlib.Omega.{arith}
 use lib.Dec.{ltb}
 use lib.IntN.{ℤ, pos, _+ℤ_, _-ℤ_}
 use lib.ListN.{set}
 use Rattle.ints.specs.Signed.{InBytes}
 use Rattle.ints.specs.Sums.{stepwise}
+use Rattle.ints.proofs.BigEndianLaws.{natAt-fits}
 use Rattle.ints.proofs.SaturatingLaws.{clamp-fits}
 use Rattle.slots.specs.Axis.{forward}
-use Rattle.slots.specs.Slot.{Slot, noSlot, Storable}
+use Rattle.slots.specs.Slot.{Slot, noSlot, slotSize, Storable}
 use Rattle.slots.specs.Line.{AllStorable, slot, update}
 use Rattle.slots.specs.Fields.{offset, withChain}
 use Rattle.slots.specs.declared.axis.Axis.{Axis}
@@ -22,8 +23,8 @@ use Rattle.finish.specs.Finish.{advances, between, finished, joined, Kin
 use Rattle.finish.proofs.SettledLaws.{finished-holds}
 
 -- ---- one slot of a line
-empty-storable : Storable noSlot
-empty-storable =
+empty-storable : (z : ℕ) → Storable z noSlot
+empty-storable z =
     record {
       glyph-fits = omega arith;
       id-fits = omega arith;
@@ -35,22 +36,23 @@ empty-storable =
       y-advance-fits = omega arith;
       x-offset-fits = omega arith;
       y-offset-fits = omega arith;
+      cluster-fits = omega (arith, natAt-fits (z - slotSize) [] 0 (λ k. omega arith));
     }
 
-slot-storable : (l : List Slot) (i : ℕ) → AllStorable l → Storable (slot l i)
+slot-storable : (z : ℕ) (l : List Slot) (i : ℕ) → AllStorable z l → Storable z (slot l i)
 unfolding AllStorable
-slot-storable [] i h = empty-storable
-slot-storable (s ∷ l) zero h = h .0
-slot-storable (s ∷ l) (suc i) h = slot-storable l i (h .1)
+slot-storable z [] i h = empty-storable z
+slot-storable z (s ∷ l) zero h = h .0
+slot-storable z (s ∷ l) (suc i) h = slot-storable z l i (h .1)
 
-set-storable : (l : List Slot) (i : ℕ) (s : Slot) → Storable s → AllStorable l → AllStorable (set l i s)
+set-storable : (z : ℕ) (l : List Slot) (i : ℕ) (s : Slot) → Storable z s → AllStorable z l → AllStorable z (set l i s)
 unfolding AllStorable
-set-storable [] i s g h = h
-set-storable (t ∷ l) zero s g h = (g, h .1)
-set-storable (t ∷ l) (suc i) s g h = (h .0, set-storable l i s g (h .1))
+set-storable z [] i s g h = h
+set-storable z (t ∷ l) zero s g h = (g, h .1)
+set-storable z (t ∷ l) (suc i) s g h = (h .0, set-storable z l i s g (h .1))
 
 -- ---- a slot with another chain and other offsets
-changed-storable : (c ox oy : ℤ) (s : Slot) → InBytes 2 c → InBytes 4 ox → InBytes 4 oy → Storable s → Storable (withChain c (withOffsets ox oy s))
+changed-storable : {z : ℕ} (c ox oy : ℤ) (s : Slot) → InBytes 2 c → InBytes 4 ox → InBytes 4 oy → Storable z s → Storable z (withChain c (withOffsets ox oy s))
 changed-storable c ox oy s fc fx fy h =
     record {
       glyph-fits = h .glyph-fits;
@@ -63,10 +65,11 @@ changed-storable c ox oy s fc fx fy h =
       y-advance-fits = h .y-advance-fits;
       x-offset-fits = fx;
       y-offset-fits = fy;
+      cluster-fits = h .cluster-fits;
     }
 
 -- ---- the new offset is a number of 32 bits: each sum is brought to one
-offset-fits : (a : Axis) (s : Slot) → Storable s → InBytes 4 (offset a s)
+offset-fits : {z : ℕ} (a : Axis) (s : Slot) → Storable z s → InBytes 4 (offset a s)
 offset-fits X s h = h .x-offset-fits
 offset-fits Y s h = h .y-offset-fits
 
@@ -87,30 +90,30 @@ taken-fits cursive true walk w own parents h = h
 taken-fits cursive false walk w own parents h = clamp-fits (own +ℤ parents)
 taken-fits neither main? walk w own parents h = h
 
-module _ (d : Direction) where
+module _ (z : ℕ) (d : Direction) where
   -- so slot i's new offset, the line cleared at i and the line joined at i
-  new-fits : (l : List Slot) (i j : ℕ) (a : Axis) → AllStorable l → InBytes 4 (newOffset d l i j a)
+  new-fits : (l : List Slot) (i j : ℕ) (a : Axis) → AllStorable z l → InBytes 4 (newOffset d l i j a)
   unfolding walked
   new-fits l i j a h =
       taken-fits (kindOf (slot l i .attachType)) (isMain d a) (walked d a l i j)
-      (λ z f. steps-fit (subtracts (ltb j i) (forward d)) z (advances a (between (forward d) l i j)) f)
-      (offset a (slot l i)) (offset a (slot l j)) (offset-fits a (slot l i) (slot-storable l i h))
+      (λ v g. steps-fit (subtracts (ltb j i) (forward d)) v (advances a (between (forward d) l i j)) g)
+      (offset a (slot l i)) (offset a (slot l j)) (offset-fits a (slot l i) (slot-storable z l i h))
 
-  cleared-storable : (l : List Slot) (i : ℕ) → AllStorable l → AllStorable (cleared l i)
+  cleared-storable : (l : List Slot) (i : ℕ) → AllStorable z l → AllStorable z (cleared l i)
   unfolding cleared update
   cleared-storable l i h =
       let s = slot l i in
-      let f = slot-storable l i h in
-      set-storable l i (free s) (changed-storable (pos 0) (s .xOffset) (s .yOffset) s (omega arith) (f .x-offset-fits) (f .y-offset-fits) f) h
+      let k = slot-storable z l i h in
+      set-storable z l i (free s) (changed-storable (pos 0) (s .xOffset) (s .yOffset) s (omega arith) (k .x-offset-fits) (k .y-offset-fits) k) h
 
-  joined-storable : (l : List Slot) (i j : ℕ) → AllStorable l → AllStorable (joined d l i j)
+  joined-storable : (l : List Slot) (i j : ℕ) → AllStorable z l → AllStorable z (joined d l i j)
   unfolding joined update
   joined-storable l i j h =
       let s = slot l i in
-      let f = slot-storable l i h in
-      set-storable l i (withOffsets (newOffset d l i j X) (newOffset d l i j Y) s)
-      (changed-storable (s .chain) (newOffset d l i j X) (newOffset d l i j Y) s (f .chain-fits) (new-fits l i j X h) (new-fits l i j Y h) f) h
+      let k = slot-storable z l i h in
+      set-storable z l i (withOffsets (newOffset d l i j X) (newOffset d l i j Y) s)
+      (changed-storable (s .chain) (newOffset d l i j X) (newOffset d l i j Y) s (k .chain-fits) (new-fits l i j X h) (new-fits l i j Y h) k) h
 
   -- a finished line can be read back from its bytes
-  pub finished-storable : (limit : ℕ) (flag : Bool) (l : List Slot) → AllStorable l → AllStorable (finished d limit flag l)
-  finished-storable = finished-holds d AllStorable cleared-storable joined-storable
+  pub finished-storable : (limit : ℕ) (flag : Bool) (l : List Slot) → AllStorable z l → AllStorable z (finished d limit flag l)
+  finished-storable = finished-holds d (AllStorable z) cleared-storable joined-storable

@@ -54,6 +54,7 @@ moved-kept ox oy s = record {
   component-kept = refl;
   flags-kept = refl;
   type-kept = refl;
+  cluster-kept = refl;
   advances-kept = λ a. advance-moved a ox oy (free s) ∙ measure-chain Advance a (pos 0) s;
 }
 

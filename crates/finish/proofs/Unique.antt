@@ -38,14 +38,14 @@ axis-is BottomToTop X = inr refl
 axis-is BottomToTop Y = inl refl
 
 -- two slots are equal where their fields are
-slot-path : (s t : Slot) → s .glyph ≡ t .glyph → s .ligatureId ≡ t .ligatureId → s .component ≡ t .component → s .flags ≡ t .flags → s .attachType ≡ t .attachType → s .chain ≡ t .chain
+slot-path : (s t : Slot) → s .glyph ≡ t .glyph → s .ligatureId ≡ t .ligatureId → s .component ≡ t .component → s .flags ≡ t .flags → s .attachType ≡ t .attachType → s .chain ≡ t .chain → s .cluster ≡ t .cluster
     → ((a : Axis) → advance a s ≡ advance a t) → ((a : Axis) → offset a s ≡ offset a t) → s ≡ t
-slot-path s t g i c f k h a o =
+slot-path s t g i c f k h n a o =
     let xa : s .xAdvance ≡ t .xAdvance = a X in
     let ya : s .yAdvance ≡ t .yAdvance = a Y in
     let xo : s .xOffset ≡ t .xOffset = o X in
     let yo : s .yOffset ≡ t .yOffset = o Y in
-    λ w. record { glyph = g w; ligatureId = i w; component = c w; flags = f w; attachType = k w; chain = h w; xAdvance = xa w; yAdvance = ya w; xOffset = xo w; yOffset = yo w }
+    λ w. record { glyph = g w; ligatureId = i w; component = c w; flags = f w; attachType = k w; chain = h w; xAdvance = xa w; yAdvance = ya w; xOffset = xo w; yOffset = yo w; cluster = n w }
 
 -- the same sum at the same place has the same offset
 cancel : (p a b : ℤ) → p +ℤ a ≡ p +ℤ b → a ≡ b
@@ -117,7 +117,7 @@ module _ (d : Direction) (l m m′ : List Slot) (h : Demand3 d l m) (h′ : Dema
       let k = h .rest-kept i in
       let k′ = h′ .rest-kept i in
       slot-path (slot m i) (slot m′ i) (k .glyph-kept ∙ sym (k′ .glyph-kept)) (k .id-kept ∙ sym (k′ .id-kept)) (k .component-kept ∙ sym (k′ .component-kept))
-      (k .flags-kept ∙ sym (k′ .flags-kept)) (k .type-kept ∙ sym (k′ .type-kept)) (h .no-chain i ∙ sym (h′ .no-chain i))
+      (k .flags-kept ∙ sym (k′ .flags-kept)) (k .type-kept ∙ sym (k′ .type-kept)) (h .no-chain i ∙ sym (h′ .no-chain i)) (k .cluster-kept ∙ sym (k′ .cluster-kept))
       (λ a. k .advances-kept a ∙ sym (k′ .advances-kept a)) o
 
 -- two lines that meet demand 3 are equal

@@ -57,6 +57,7 @@ pub record Kept (before after : Slot) : Type 0 where
   pub component-kept : after .component ≡ before .component
   pub flags-kept : after .flags ≡ before .flags
   pub type-kept : after .attachType ≡ before .attachType
+  pub cluster-kept : after .cluster ≡ before .cluster
   pub advances-kept : (a : Axis) → advance a after ≡ advance a before
 
 -- the line l, and the line l′ that it has become

@@ -7,23 +7,23 @@ use slots::axis::Axis;
 use slots::axis::Direction;
 use slots::fields::ByteField;
 use slots::fields::Measure;
+use slots::shape::Shape;
 ghost use mathlib.Core.Path.{_≡_};
-ghost use Prim.Native.Nat.{_<_};
 ghost use Rattle.ints.specs.Choice.{if_then_else_};
 ghost use Rattle.ints.specs.Saturating.{plus};
 ghost use Rattle.ints.specs.Signed.{val};
-ghost use Rattle.slots.specs.Line.{count, slot, slots};
+ghost use Rattle.slots.specs.Line.{Inside, shapeWith, slot, slots};
 ghost use Rattle.slots.specs.Fields.{offset};
 ghost use Rattle.finish.specs.Finish.{isMain, joined};
 
 // Slot i's offset on an axis; on the main axis with its parent's added.
-fn mark_from(line: &[u8], d: Direction, i: usize, j: usize, a: Axis) -> Signed
-    requires { ⌜ (i < count (now line)) × (j < count (now line)) ⌝ }
-    ensures { λ r. ⌜ val r ≡ (if isMain d a then plus (offset a (slot (slots (now (line .entry))) i)) (offset a (slot (slots (now (line .entry))) j)) else offset a (slot (slots (now (line .entry))) i)) ⌝ }
+fn mark_from(line: &[u8], shape: Shape, d: Direction, i: usize, j: usize, a: Axis) -> Signed
+    requires { ⌜ Inside shape (now line) i × Inside shape (now line) j ⌝ }
+    ensures { λ r. ⌜ val r ≡ (if isMain d a then plus (offset a (slot (slots shape (now (line .entry))) i)) (offset a (slot (slots shape (now (line .entry))) j)) else offset a (slot (slots shape (now (line .entry))) i)) ⌝ }
 {
-    let own = slots::fields::get(line, i, Measure::Offset, a);
+    let own = slots::fields::get(line, shape, i, Measure::Offset, a);
     if is_main(d, a) {
-        return sat_add(own, slots::fields::get(line, j, Measure::Offset, a));
+        return sat_add(own, slots::fields::get(line, shape, j, Measure::Offset, a));
     }
     own
 }
@@ -45,40 +45,44 @@ fn is_main(d: Direction, a: Axis) -> bool
 }
 
 // A mark: along the line it takes its parent's offset in; then the advances between, on both axes.
-fn join_mark(line: &mut [u8], d: Direction, i: usize, j: usize)
-    requires { ⌜ (i < count (now line)) × (j < count (now line)) × (slot (slots (now line)) i .attachType ≡ 1) ⌝ }
-    ensures { λ _. ⌜ slots (now (line .exit)) ≡ joined d (slots (now (line .entry))) i j ⌝ }
+fn join_mark(line: &mut [u8], shape: Shape, d: Direction, i: usize, j: usize)
+    requires { ⌜ Inside shape (now line) i × Inside shape (now line) j × (slot (slots shape (now line)) i .attachType ≡ 1) ⌝ }
+    ensures { λ _. ⌜ slots shape (now (line .exit)) ≡ joined d (slots shape (now (line .entry))) i j ⌝ }
 {
-    let x = mark_from(line, d, i, j, Axis::X);
-    let y = mark_from(line, d, i, j, Axis::Y);
-    let to = walk(line, d, i, j, Offsets { x: x, y: y });
-    slots::fields::set(line, i, Measure::Offset, Axis::X, to.x);
-    slots::fields::set(line, i, Measure::Offset, Axis::Y, to.y);
+    let x = mark_from(line, shape, d, i, j, Axis::X);
+    let y = mark_from(line, shape, d, i, j, Axis::Y);
+    let to = walk(line, shape, d, i, j, Offsets { x: x, y: y });
+    slots::fields::set(line, shape, i, Measure::Offset, Axis::X, to.x);
+    slots::fields::set(line, shape, i, Measure::Offset, Axis::Y, to.y);
 }
 
 // A cursive glyph: across the line it takes its parent's offset in.
-fn join_cursive(line: &mut [u8], d: Direction, i: usize, j: usize)
-    requires { ⌜ (i < count (now line)) × (j < count (now line)) × (slot (slots (now line)) i .attachType ≡ 2) ⌝ }
-    ensures { λ _. ⌜ slots (now (line .exit)) ≡ joined d (slots (now (line .entry))) i j ⌝ }
+fn join_cursive(line: &mut [u8], shape: Shape, d: Direction, i: usize, j: usize)
+    requires { ⌜ Inside shape (now line) i × Inside shape (now line) j × (slot (slots shape (now line)) i .attachType ≡ 2) ⌝ }
+    ensures { λ _. ⌜ slots shape (now (line .exit)) ≡ joined d (slots shape (now (line .entry))) i j ⌝ }
 {
     let a = slots::axis::cross_axis(d);
-    let own = slots::fields::get(line, i, Measure::Offset, a);
-    let above = slots::fields::get(line, j, Measure::Offset, a);
-    slots::fields::set(line, i, Measure::Offset, a, sat_add(own, above));
+    let own = slots::fields::get(line, shape, i, Measure::Offset, a);
+    let above = slots::fields::get(line, shape, j, Measure::Offset, a);
+    slots::fields::set(line, shape, i, Measure::Offset, a, sat_add(own, above));
 }
 
 // Slot i takes its parent j in. The type is compared as a whole byte: any other adds nothing.
-pub fn join(line: &mut [u8], d: Direction, i: usize, j: usize)
-    requires { ⌜ (i < count (now line)) × (j < count (now line)) ⌝ }
-    ensures { λ _. ⌜ slots (now (line .exit)) ≡ joined d (slots (now (line .entry))) i j ⌝ }
+pub fn join(line: &mut [u8], size: usize, n: usize, d: Direction, i: usize, j: usize)
+    requires { ⌜ Inside (shapeWith size n) (now line) i × Inside (shapeWith size n) (now line) j ⌝ }
+    ensures { λ _. ⌜ slots (shapeWith size n) (now (line .exit)) ≡ joined d (slots (shapeWith size n) (now (line .entry))) i j ⌝ }
 {
-    let kind = slots::fields::get_byte(line, i, ByteField::AttachType);
+    let shape = Shape {
+        size: size,
+        count: n,
+    };
+    let kind = slots::fields::get_byte(line, shape, i, ByteField::AttachType);
     if kind == 1 {
-        join_mark(line, d, i, j);
+        join_mark(line, shape, d, i, j);
         return;
     }
     if kind == 2 {
-        join_cursive(line, d, i, j);
+        join_cursive(line, shape, d, i, j);
         return;
     }
 }

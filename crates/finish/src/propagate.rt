@@ -2,44 +2,60 @@
 use crate::join::join;
 use slots::axis::Direction;
 use slots::parent::Parent;
+use slots::shape::Shape;
 ghost use mathlib.Core.Path.{_≡_};
-ghost use Prim.Native.Nat.{_<_};
-ghost use Rattle.slots.specs.Line.{count, slots};
+ghost use Rattle.slots.specs.Line.{Inside, shapeWith, slots};
 ghost use Rattle.finish.specs.Finish.{settled};
 
-// The parent is read only after its own chain has been followed; most parents have none, and cost no call. A chain that leads outside the line, or past the nesting limit, is only cleared.
-pub fn settle(line: &mut [u8], d: Direction, i: usize, limit: u32)
-    requires { ⌜ i < count (now line) ⌝ }
-    ensures { λ _. ⌜ slots (now (line .exit)) ≡ settled d limit (slots (now (line .entry))) i ⌝ }
+// The parent is read only after its own chain has been followed. A chain that leads outside the line, or past the nesting limit, is only cleared. The shape
+// goes as two numbers: a struct goes by pointer, which takes stack at each level.
+pub fn settle(line: &mut [u8], size: usize, n: usize, d: Direction, i: usize, limit: u32)
+    requires { ⌜ Inside (shapeWith size n) (now line) i ⌝ }
+    ensures { λ _. ⌜ slots (shapeWith size n) (now (line .exit)) ≡ settled d limit (slots (shapeWith size n) (now (line .entry))) i ⌝ }
 {
-    let p = slots::parent::parent_of(line, i);
+    let shape = Shape {
+        size: size,
+        count: n,
+    };
+    let p = slots::parent::parent_of(line, shape, i);
     match p {
         Parent::None => {}
         Parent::Outside => {
-            slots::fields::set_chain(line, i, 0);
+            slots::fields::set_chain(line, shape, i, 0);
         }
         Parent::At(j) => {
-            slots::fields::set_chain(line, i, 0);
-            if limit == 0 {
+            slots::fields::set_chain(line, shape, i, 0);
+            if limit == 0 { // the limit bounds the stack
                 return;
             }
-            if slots::fields::chain(line, j) == 0 {
-                join(line, d, i, j);
-                return;
-            }
-            settle(line, d, j, limit - 1);
-            join(line, d, i, j);
+            settle(line, size, n, d, j, limit - 1);
+            join(line, size, n, d, i, j);
         }
     }
 }
 
-// The same for a slot of the two loops. Most slots are unattached: for those the chain is read, and no more.
-pub fn settle_slot(line: &mut [u8], d: Direction, i: usize, limit: u32)
-    requires { ⌜ i < count (now line) ⌝ }
-    ensures { λ _. ⌜ slots (now (line .exit)) ≡ settled d limit (slots (now (line .entry))) i ⌝ }
+// The same for a slot of the two loops, whose parent mostly is settled already: then no call is deeper than this.
+pub fn settle_slot(line: &mut [u8], shape: Shape, d: Direction, i: usize, limit: u32)
+    requires { ⌜ Inside shape (now line) i ⌝ }
+    ensures { λ _. ⌜ slots shape (now (line .exit)) ≡ settled d limit (slots shape (now (line .entry))) i ⌝ }
 {
-    if slots::fields::chain(line, i) == 0 {
-        return;
+    let size = shape.size;
+    let n = shape.count;
+    let p = slots::parent::parent_of(line, shape, i);
+    match p {
+        Parent::None => {}
+        Parent::Outside => {
+            slots::fields::set_chain(line, shape, i, 0);
+        }
+        Parent::At(j) => {
+            slots::fields::set_chain(line, shape, i, 0);
+            if limit == 0 {
+                return;
+            }
+            if slots::fields::is_attached(line, shape, j) {
+                settle(line, size, n, d, j, limit - 1);
+            }
+            join(line, size, n, d, i, j);
+        }
     }
-    settle(line, d, i, limit);
 }

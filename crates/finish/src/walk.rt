@@ -7,12 +7,14 @@ use ints::saturating::unlift;
 use slots::axis::Axis;
 use slots::axis::Direction;
 use slots::fields::Measure;
+use slots::shape::Shape;
+use slots::shape::part_shape;
 ghost use mathlib.Core.Path.{_≡_};
 ghost use Prim.Native.Nat.{_<_};
 ghost use Rattle.ints.specs.Saturating.{unlifted};
 ghost use Rattle.ints.specs.Signed.{val};
 ghost use Rattle.ints.specs.Sums.{stepwise};
-ghost use Rattle.slots.specs.Line.{count, slots};
+ghost use Rattle.slots.specs.Line.{Fits, Inside, slots};
 ghost use Rattle.slots.specs.declared.axis.Axis.the-variants.{X, Y};
 ghost use Rattle.finish.specs.Finish.{advances, stepBy, walked};
 
@@ -33,23 +35,24 @@ fn step(z: u64, v: Signed, subtract: bool) -> u64
     lifted_add(z, v)
 }
 
-// The advances of a part of n slots put to both offsets, one by one.
-fn step_all(part: &[u8], n: usize, from: Offsets, subtract: bool) -> Offsets
-    requires { ⌜ n ≡ count (now part) ⌝ }
-    ensures { λ r. ⌜ (val (r .x) ≡ stepwise (stepBy subtract) (val (from .x)) (advances X (slots (now (part .entry))))) × (val (r .y) ≡ stepwise (stepBy subtract) (val (from .y)) (advances Y (slots (now (part .entry))))) ⌝ }
+// The advances of a part put to both offsets, one by one.
+fn step_all(part: &[u8], shape: Shape, from: Offsets, subtract: bool) -> Offsets
+    requires { ⌜ Fits shape (now part) ⌝ }
+    ensures { λ r. ⌜ (val (r .x) ≡ stepwise (stepBy subtract) (val (from .x)) (advances X (slots shape (now (part .entry))))) × (val (r .y) ≡ stepwise (stepBy subtract) (val (from .y)) (advances Y (slots shape (now (part .entry))))) ⌝ }
 {
+    let n = shape.count;
     let mut x = lift(from.x);
     let mut y = lift(from.y);
     let mut k = 0;
     while k < n {
         x = step(
             x,
-            slots::fields::get(part, k, Measure::Advance, Axis::X),
+            slots::fields::get(part, shape, k, Measure::Advance, Axis::X),
             subtract,
         );
         y = step(
             y,
-            slots::fields::get(part, k, Measure::Advance, Axis::Y),
+            slots::fields::get(part, shape, k, Measure::Advance, Axis::Y),
             subtract,
         );
         k += 1;
@@ -62,27 +65,37 @@ fn step_all(part: &[u8], n: usize, from: Offsets, subtract: bool) -> Offsets
 
 // Both offsets with the advances between slot i and its parent j put to them. With the parent before the slot, the common case, a forward
 // direction subtracts and a backward one adds; with the parent after it is the other way round.
-pub fn walk(line: &[u8], d: Direction, i: usize, j: usize, from: Offsets) -> Offsets
-    requires { ⌜ (i < count (now line)) × (j < count (now line)) ⌝ }
-    ensures { λ r. ⌜ (val (r .x) ≡ walked d X (slots (now (line .entry))) i j (val (from .x))) × (val (r .y) ≡ walked d Y (slots (now (line .entry))) i j (val (from .y))) ⌝ }
+pub fn walk(line: &[u8], shape: Shape, d: Direction, i: usize, j: usize, from: Offsets) -> Offsets
+    requires { ⌜ Inside shape (now line) i × Inside shape (now line) j ⌝ }
+    ensures { λ r. ⌜ (val (r .x) ≡ walked d X (slots shape (now (line .entry))) i j (val (from .x))) × (val (r .y) ≡ walked d Y (slots shape (now (line .entry))) i j (val (from .y))) ⌝ }
 {
     if slots::axis::is_forward(d) {
         if j < i {
-            return step_all(slots::fields::slots_between(line, j, i), i - j, from, true);
+            return step_all(
+                slots::fields::slots_between(line, shape, j, i),
+                part_shape(shape, i - j),
+                from,
+                true,
+            );
         }
-        return step_all(slots::fields::slots_between(line, i, j), j - i, from, false);
+        return step_all(
+            slots::fields::slots_between(line, shape, i, j),
+            part_shape(shape, j - i),
+            from,
+            false,
+        );
     }
     if j < i {
         return step_all(
-            slots::fields::slots_between(line, j + 1, i + 1),
-            i - j,
+            slots::fields::slots_between(line, shape, j + 1, i + 1),
+            part_shape(shape, i - j),
             from,
             false,
         );
     }
     step_all(
-        slots::fields::slots_between(line, i + 1, j + 1),
-        j - i,
+        slots::fields::slots_between(line, shape, i + 1, j + 1),
+        part_shape(shape, j - i),
         from,
         true,
     )

@@ -1,9 +1,8 @@
 -- What is shown of a line: a number that stands for its bytes, and how many of its slots hang on others. Assumes nothing.
 use mathlib.Core.List.{List, [], _∷_}
-use Prim.Native.Nat.{ℕ, _+_, _*_, _%_}
-use lib.Dec.{eqb}
-use lib.IntN.{natAbs}
+use Prim.Native.Nat.{ℕ, zero, suc, _+_, _*_, _%_}
 use Rattle.ints.specs.Choice.{if_then_else_}
+use Rattle.slots.specs.Parent.{isAttached}
 use Rattle.slots.specs.Slot.{Slot}
 
 -- the bytes as digits of a number to the base 257, after those that gave n, modulo a prime
@@ -11,11 +10,7 @@ unfoldable pub sumFrom : ℕ → List ℕ → ℕ
 sumFrom n [] = n
 sumFrom n (b ∷ bs) = sumFrom ((n * 257 + b) % 4294967291) bs
 
--- 1 where the slot has a chain, else 0
-abbrev pub hasChain : Slot → ℕ
-hasChain s = if eqb (natAbs (s .chain)) 0 then 0 else 1
-
--- how many slots have a chain
-unfoldable pub chainedIn : List Slot → ℕ
-chainedIn [] = 0
-chainedIn (s ∷ ss) = hasChain s + chainedIn ss
+-- how many of the first n slots are attached
+unfoldable pub attachedTo : ℕ → List Slot → ℕ
+attachedTo zero ss = 0
+attachedTo (suc n) ss = attachedTo n ss + (if isAttached ss n then 1 else 0)

@@ -5,12 +5,15 @@ use ints::big_endian::Signed;
 use slots::axis::Axis;
 use slots::fields::ByteField;
 use slots::fields::Measure;
+use slots::shape::Shape;
 ghost use mathlib.Core.Path.{_≡_};
 ghost use Prim.Native.Nat.{_≤_, _<_};
+ghost use Rattle.ints.specs.Choice.{if_then_else_};
 ghost use Rattle.ints.specs.Signed.{InBytes, val};
-ghost use Rattle.slots.specs.Line.{count, slot, slots, update};
+ghost use Rattle.slots.specs.Line.{Fits, Inside, slots, update};
+ghost use Rattle.slots.specs.Parent.{isAttached};
 ghost use Rattle.finish_run.specs.Cases.{chainAndTen, filledSlot, filledTo, hung, kindOf, lessTen, spreadOf, withBoth};
-ghost use Rattle.finish_run.specs.Shown.{chainedIn, hasChain, sumFrom};
+ghost use Rattle.finish_run.specs.Shown.{attachedTo, sumFrom};
 
 // How the slots of a line hang on each other.
 enum Case {
@@ -79,46 +82,46 @@ fn spread(case: Case, n: u32) -> Signed
 }
 
 // The type and the chain of slot i.
-fn hang(line: &mut [u8], i: usize, case: Case)
-    requires { ⌜ (i < count (now line)) × (i < 2048) ⌝ }
-    ensures { λ _. ⌜ slots (now (line .exit)) ≡ update i (hung case i) (slots (now (line .entry))) ⌝ }
+fn hang(line: &mut [u8], shape: Shape, i: usize, case: Case)
+    requires { ⌜ Inside shape (now line) i × (i < 2048) ⌝ }
+    ensures { λ _. ⌜ slots shape (now (line .exit)) ≡ update i (hung case i) (slots shape (now (line .entry))) ⌝ }
 {
     let n = i as u32;
-    slots::fields::set_byte(line, i, ByteField::AttachType, kind_of(case, n));
-    slots::fields::set_chain(line, i, less_ten(chain_and_ten(case, n)));
+    slots::fields::set_byte(line, shape, i, ByteField::AttachType, kind_of(case, n));
+    slots::fields::set_chain(line, shape, i, less_ten(chain_and_ten(case, n)));
 }
 
 // The advances or the offsets of slot i.
-fn set_both(line: &mut [u8], i: usize, m: Measure, x: Signed, y: Signed)
-    requires { ⌜ i < count (now line) ⌝ }
-    ensures { λ _. ⌜ slots (now (line .exit)) ≡ update i (withBoth m (val x) (val y)) (slots (now (line .entry))) ⌝ }
+fn set_both(line: &mut [u8], shape: Shape, i: usize, m: Measure, x: Signed, y: Signed)
+    requires { ⌜ Inside shape (now line) i ⌝ }
+    ensures { λ _. ⌜ slots shape (now (line .exit)) ≡ update i (withBoth m (val x) (val y)) (slots shape (now (line .entry))) ⌝ }
 {
-    slots::fields::set(line, i, m, Axis::X, x);
-    slots::fields::set(line, i, m, Axis::Y, y);
+    slots::fields::set(line, shape, i, m, Axis::X, x);
+    slots::fields::set(line, shape, i, m, Axis::Y, y);
 }
 
-fn fill_slot(line: &mut [u8], i: usize, case: Case)
-    requires { ⌜ (i < count (now line)) × (i < 2048) ⌝ }
-    ensures { λ _. ⌜ slots (now (line .exit)) ≡ update i (filledSlot case i) (slots (now (line .entry))) ⌝ }
+fn fill_slot(line: &mut [u8], shape: Shape, i: usize, case: Case)
+    requires { ⌜ Inside shape (now line) i × (i < 2048) ⌝ }
+    ensures { λ _. ⌜ slots shape (now (line .exit)) ≡ update i (filledSlot case i) (slots shape (now (line .entry))) ⌝ }
 {
     let n = i as u32;
     let x = spread(case, n * 37);
     let y = spread(case, n * 53);
     let to_x = spread(case, n * 71);
     let to_y = spread(case, n * 89);
-    hang(line, i, case);
-    set_both(line, i, Measure::Advance, x, y);
-    set_both(line, i, Measure::Offset, to_x, to_y);
+    hang(line, shape, i, case);
+    set_both(line, shape, i, Measure::Advance, x, y);
+    set_both(line, shape, i, Measure::Offset, to_x, to_y);
 }
 
-fn fill(line: &mut [u8], case: Case)
-    requires { ⌜ count (now line) < 2048 ⌝ }
-    ensures { λ _. ⌜ slots (now (line .exit)) ≡ filledTo case (count (now (line .entry))) (slots (now (line .entry))) ⌝ }
+fn fill(line: &mut [u8], shape: Shape, case: Case)
+    requires { ⌜ Fits shape (now line) × (shape .count < 2048) ⌝ }
+    ensures { λ _. ⌜ slots shape (now (line .exit)) ≡ filledTo case (shape .count) (slots shape (now (line .entry))) ⌝ }
 {
-    let n = slots::fields::slot_count(line);
+    let n = shape.count;
     let mut i = 0;
     while i < n {
-        fill_slot(line, i, case);
+        fill_slot(line, shape, i, case);
         i += 1;
     }
 }
@@ -136,26 +139,27 @@ fn checksum(line: &[u8]) -> u64
     sum
 }
 
-// 1 where slot i has a chain, else 0.
-fn chained_at(line: &[u8], i: usize) -> u64
-    requires { ⌜ i < count (now line) ⌝ }
-    ensures { λ r. ⌜ (r ≡ hasChain (slot (slots (now (line .entry))) i)) × (r ≤ 1) ⌝ }
+// 1 where slot i is attached, else 0.
+fn attached_at(line: &[u8], shape: Shape, i: usize) -> u64
+    requires { ⌜ Inside shape (now line) i ⌝ }
+    ensures { λ r. ⌜ (r ≡ (if isAttached (slots shape (now (line .entry))) i then 1 else 0)) × (r ≤ 1) ⌝ }
 {
-    if slots::fields::chain(line, i) == 0 {
-        return 0;
+    if slots::fields::is_attached(line, shape, i) {
+        return 1;
     }
-    1
+    0
 }
 
-// How many slots have a chain.
-fn chained(line: &[u8]) -> u64
-    ensures { λ r. ⌜ r ≡ chainedIn (slots (now (line .entry))) ⌝ }
+// How many slots are attached.
+fn attached(line: &[u8], shape: Shape) -> u64
+    requires { ⌜ Fits shape (now line) ⌝ }
+    ensures { λ r. ⌜ r ≡ attachedTo (shape .count) (slots shape (now (line .entry))) ⌝ }
 {
-    let n = slots::fields::slot_count(line);
+    let n = shape.count;
     let mut sum: u64 = 0;
     let mut i = 0;
     while i < n {
-        sum += chained_at(line, i);
+        sum += attached_at(line, shape, i);
         i += 1;
     }
     sum
@@ -183,9 +187,11 @@ fn show_answer(answer: Done) {
     }
 }
 
-fn show_line(line: &[u8]) {
+fn show_line(line: &[u8], shape: Shape)
+    requires { ⌜ Fits shape (now line) ⌝ }
+{
     say(b"checksum ", checksum(line));
-    say(b", chains left ", chained(line));
+    say(b", chains left ", attached(line, shape));
     show::text(b"\n");
 }
 
@@ -193,10 +199,14 @@ fn show_line(line: &[u8]) {
 fn run(case: Case, direction: u32, limit: u32, attachments: bool) {
     let mut space = [0u8; 24576];
     let line: &mut [u8] = &mut space;
-    fill(line, case);
+    let shape = Shape {
+        size: 24,
+        count: 1024,
+    };
+    fill(line, shape, case);
     show_call(direction, limit);
-    show_answer(gpos::finish(line, direction, limit, attachments));
-    show_line(line);
+    show_answer(gpos::finish(line, 24, direction, limit, attachments));
+    show_line(line, shape);
 }
 
 fn run_limits(case: Case, direction: u32) {

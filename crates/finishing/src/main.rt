@@ -2,27 +2,42 @@
 // number of the refusal. The buffer holds more than the longest line, so that a longer input is refused and never cut.
 use answers::Done;
 use libc::STDIN_FILENO;
+use slots::shape::Cut;
+use slots::shape::Shape;
+use slots::shape::cut_of;
 ghost use Prim.Native.Nat.{_≤_};
 ghost use lib.ListN.{length};
+ghost use Rattle.slots.specs.Line.{Fits, shapeWith};
 
-// The slots, a line each.
-fn show_slots(line: &[u8])
-    requires { ⌜ length (now line) ≤ 65536 ⌝ }
+// The n slots, a line each.
+fn show_slots(line: &[u8], n: usize)
+    requires { ⌜ Fits (shapeWith 24 n) (now line) × (length (now line) ≤ 65536) ⌝ }
 {
-    let n = slots::fields::slot_count(line);
+    let shape = Shape { size: 24, count: n };
     let mut i = 0;
     while i < n {
-        show::slot(line, i);
+        show::slot(line, shape, i);
         i += 1;
     }
+}
+
+// A finished line: it is cut again as finishing cut it, which says how many slots there are.
+fn show_line(line: &[u8])
+    requires { ⌜ length (now line) ≤ 65536 ⌝ }
+{
+    let cut = cut_of(line, 24);
+    let Cut::Slots(n) = cut else {
+        return;
+    };
+    show_slots(line, n);
 }
 
 fn finish(line: &mut [u8])
     requires { ⌜ length (now line) ≤ 65536 ⌝ }
 {
-    let answer = gpos::finish(line, 0, 64, true);
+    let answer = gpos::finish(line, 24, 0, 64, true);
     match answer {
-        Done::Done => show_slots(line),
+        Done::Done => show_line(line),
         Done::Refused(r) => show::refused(r),
     }
 }

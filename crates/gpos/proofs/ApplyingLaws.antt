@@ -1,5 +1,5 @@
 -- The tests of an applying call, read one part after the other, and the ways through the call: refused, or handed to the core. Assumes nothing.
-use mathlib.Core.Path.{_≡_, ap, _∙_}
+use mathlib.Core.Path.{_≡_, ap, sym, _∙_}
 use mathlib.Core.Bool.{Bool, true, false}
 use mathlib.Core.List.{List, [], _∷_}
 use Prim.Native.Nat.{ℕ}
@@ -7,100 +7,97 @@ use lib.ListN.{length}
 use Rattle.ints.specs.BigEndian.{Bytes}
 use Rattle.ints.specs.Scale.{InScale}
 use Rattle.slots.specs.Axis.{directionOf}
-use Rattle.slots.specs.Checks.{misshapen}
 use Rattle.slots.specs.Slot.{Slot}
-use Rattle.slots.specs.Line.{slots}
+use Rattle.slots.specs.Line.{shapeWith, slots}
 use Rattle.slots.specs.declared.axis.Direction.{Direction}
+use Rattle.slots.proofs.LineLaws.{length-slots}
+use Rattle.slots.proofs.ShapeLaws.{Whole}
 use Rattle.answers.specs.Said.{Said, done, refused, unless}
-use Rattle.answers.specs.Outcome.{Effect, Outcome}
-use Rattle.answers.proofs.OutcomeLaws.{outcome-of, outcome-refused}
+use Rattle.answers.specs.Outcome.{Call, Effect, Made}
+use Rattle.answers.proofs.OutcomeLaws.{made-by, made-refused}
 use Rattle.answers.proofs.TestLaws.{clear-first, clear-parts, go-on, refused-early}
-use Rattle.gpos.specs.Tests.{applyingTests, callTests, lineTests, offScale}
-use Rattle.gpos.proofs.TestLaws.{clear, in-scale}
+use Rattle.gpos.specs.Tests.{applying, callTests, offScale, slotTests}
+use Rattle.gpos.proofs.TestLaws.{in-scale, number-good}
 
--- ---- the tests of refusals 1 to 5: those of the line, then that of the index
-module _ (l : List ℕ) (direction s u : ℕ) (badIndex : Bool) where
-  abbrev line : List (Bool × ℕ)
-  line = lineTests l direction (offScale s u)
+-- ---- the tests of refusals 2 to 5: those of the slots, then that of the index
+module _ (ss : List Slot) (direction s u : ℕ) (badIndex : Bool) where
+  abbrev first : List (Bool × ℕ)
+  first = slotTests ss direction (offScale s u)
 
   abbrev index : List (Bool × ℕ)
   index = (badIndex, 5) ∷ []
 
-  -- those of the line refuse
-  pub line-refused : (n : ℕ) → unless line done ≡ refused n → unless (callTests l direction s u badIndex) done ≡ refused n
-  line-refused n e = refused-early index done line n e
+  -- those of the slots refuse
+  pub slots-refused : (n : ℕ) → unless first done ≡ refused n → unless (callTests ss direction s u badIndex) done ≡ refused n
+  slots-refused n e = refused-early index done first n e
 
   -- they don't, and that of the index decides
-  module _ (ok : unless line done ≡ done) where
-    pub index-refused : badIndex ≡ true → unless (callTests l direction s u badIndex) done ≡ refused 5
-    index-refused e = go-on index done line ok ∙ rw e
+  module _ (ok : unless first done ≡ done) where
+    pub index-refused : badIndex ≡ true → unless (callTests ss direction s u badIndex) done ≡ refused 5
+    index-refused e = go-on index done first ok ∙ rw e
 
-    pub none-refused : badIndex ≡ false → unless (callTests l direction s u badIndex) done ≡ done
-    none-refused e = go-on index done line ok ∙ rw e
+    pub none-refused : badIndex ≡ false → unless (callTests ss direction s u badIndex) done ≡ done
+    none-refused e = go-on index done first ok ∙ rw e
 
   -- what is known where none refuses
   pub record Allowed : Type 0 where
-    pub shape : misshapen l ≡ false
     pub scale : InScale s u
     pub place : badIndex ≡ false
 
-  allowed : unless (callTests l direction s u badIndex) done ≡ done → Allowed
+  allowed : unless (callTests ss direction s u badIndex) done ≡ done → Allowed
   allowed e =
-      let parts = clear-parts line index e in
-      let clean = clear l direction (offScale s u) (parts .0) in
-      record { shape = clean .shape; scale = in-scale s u (clean .number); place = clear-first badIndex 5 [] (parts .1) .0 }
+      let parts = clear-parts first index e in
+      record { scale = in-scale s u (number-good ss direction (offScale s u) (parts .0)); place = clear-first badIndex 5 [] (parts .1) .0 }
 
 -- ---- the call
--- its line and numbers, whether its index and its subtable are bad, and, by the direction, what its core says and the slots that the core leaves
-pub record Call : Type 0 where
-  pub line : List ℕ
+-- its numbers, whether its index is bad in a line of so many slots and its subtable is, and, by the direction, what its core says and the slots that it leaves
+pub record Parts : Type 0 where
   pub direction : ℕ
   pub s : ℕ
   pub u : ℕ
-  pub bad-index : Bool
+  pub bad-index : ℕ → Bool
   pub bad-subtable : Bool
-  pub says : Direction → Said
-  pub leaves : Direction → List Slot
+  pub says : Direction → List Slot → Said
+  pub leaves : Direction → List Slot → List Slot
 
-abbrev pub callOf : List ℕ → ℕ → ℕ → ℕ → Bool → Bool → (Direction → Said) → (Direction → List Slot) → Call
-callOf l direction s u i t says leaves =
-    record { line = l; direction = direction; s = s; u = u; bad-index = i; bad-subtable = t; says = says; leaves = leaves }
+abbrev pub callOf : Parts → Call
+callOf p = applying (p .direction) (p .s) (p .u) (λ ss. p .bad-index (length ss)) (p .bad-subtable) (p .says) (p .leaves)
 
-module _ (c : Call) where
+-- on a line of n slots of z bytes
+module _ (p : Parts) (z : ℕ) (l : List ℕ) {n : ℕ} (whole : Whole z l n) where
+  abbrev ss : List Slot
+  ss = slots (shapeWith z n) l
+
   abbrev pub tests : List (Bool × ℕ)
-  tests = callTests (c .line) (c .direction) (c .s) (c .u) (c .bad-index)
+  tests = callTests ss (p .direction) (p .s) (p .u) (p .bad-index (length ss))
 
   abbrev subtable : List (Bool × ℕ)
-  subtable = (c .bad-subtable, 6) ∷ []
+  subtable = (p .bad-subtable, 6) ∷ []
 
-  -- what is to be said of the call, and the slots that it leaves
   abbrev says-core : Said
-  says-core = c .says (directionOf (c .direction))
+  says-core = p .says (directionOf (p .direction)) ss
 
-  abbrev answer : Said
-  answer = unless (applyingTests (c .line) (c .direction) (c .s) (c .u) (c .bad-index) (c .bad-subtable)) says-core
-
-  abbrev after : List Slot
-  after = c .leaves (directionOf (c .direction))
+  index-is : p .bad-index (length ss) ≡ p .bad-index n
+  index-is = ap (p .bad-index) (length-slots (shapeWith z n) l)
 
   -- what code's checks said, x, by its own test of the index
-  pub checked : {x : Said} {i : Bool} → x ≡ unless (callTests (c .line) (c .direction) (c .s) (c .u) i) done → i ≡ c .bad-index → x ≡ unless tests done
-  checked said-is i-is = said-is ∙ ap (λ (i : Bool). unless (callTests (c .line) (c .direction) (c .s) (c .u) i) done) i-is
+  pub checked : {x : Said} {i : Bool} → x ≡ unless (callTests ss (p .direction) (p .s) (p .u) i) done → i ≡ p .bad-index n → x ≡ unless tests done
+  checked said-is i-is = said-is ∙ ap (λ (i : Bool). unless (callTests ss (p .direction) (p .s) (p .u) i) done) (i-is ∙ sym index-is)
 
-  pub refused-by : (n : ℕ) → unless tests done ≡ refused n → Outcome (c .line) answer after (refused n) (c .line)
-  refused-by n e = outcome-refused (c .line) answer after n (refused-early subtable says-core tests n e)
+  pub refused-by : (k : ℕ) → unless tests done ≡ refused k → Made (callOf p) z l (refused k) l
+  refused-by k e = made-refused (callOf p) z l (whole .good) k (whole .shape-is) (refused-early subtable says-core tests k e)
 
-  -- none of refusals 1 to 5
+  -- none of refusals 2 to 5
   module _ (ok : unless tests done ≡ done) where
-    pub passed : Allowed (c .line) (c .direction) (c .s) (c .u) (c .bad-index)
-    passed = allowed (c .line) (c .direction) (c .s) (c .u) (c .bad-index) ok
+    pub passed : Allowed ss (p .direction) (p .s) (p .u) (p .bad-index n)
+    passed = let a = allowed ss (p .direction) (p .s) (p .u) (p .bad-index (length ss)) ok in record { scale = a .scale; place = sym index-is ∙ a .place }
 
-    pub refused-subtable : c .bad-subtable ≡ true → Outcome (c .line) answer after (refused 6) (c .line)
-    refused-subtable e = outcome-refused (c .line) answer after 6 (go-on subtable says-core tests ok ∙ rw e)
+    pub refused-subtable : p .bad-subtable ≡ true → Made (callOf p) z l (refused 6) l
+    refused-subtable e = made-refused (callOf p) z l (whole .good) 6 (whole .shape-is) (go-on subtable says-core tests ok ∙ rw e)
 
     -- nor 6: the core was called with the direction d, said `given` and left the bytes l′
-    pub by-core : {d : Direction} (l′ : List ℕ) (given : Said) → c .bad-subtable ≡ false → d ≡ directionOf (c .direction) → Bytes (c .line) → Bytes l′
-        → length l′ ≡ length (c .line) → Effect (slots (c .line)) (c .says d) (c .leaves d) given (slots l′) → Outcome (c .line) answer after given l′
-    by-core l′ given good is b b′ n effect =
-        let said-is : answer ≡ says-core = go-on subtable says-core tests ok ∙ rw good in
-        outcome-of (c .line) l′ answer after given (passed .shape) b b′ n (rw said-is (rw is at effect))
+    pub by-core : {d : Direction} (l′ : List ℕ) (given : Said) → p .bad-subtable ≡ false → d ≡ directionOf (p .direction) → Bytes l → Bytes l′ → length l′ ≡ length l
+        → Effect ss (p .says d ss) (p .leaves d ss) given (slots (shapeWith z n) l′) → Made (callOf p) z l given l′
+    by-core l′ given good is b b′ k effect =
+        let said-is : callOf p .says ss ≡ says-core = go-on subtable says-core tests ok ∙ rw good in
+        made-by (callOf p) z l (whole .good) l′ given (whole .shape-is) b b′ k (rw said-is (rw is at effect))

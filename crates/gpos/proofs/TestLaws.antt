@@ -1,4 +1,4 @@
--- What is known once the tests of a line do not hold. Assumes nothing.
+-- What is known once the tests of a line's slots do not hold. Assumes nothing.
 use mathlib.Core.Path.{_≡_}
 use mathlib.Core.Bool.{Bool, false, _||_}
 use mathlib.Core.List.{List, [], _∷_}
@@ -7,10 +7,11 @@ use borrow.Author.Tests.{ltb-false}
 use lib.Dec.{ltb}
 use Rattle.ints.specs.Scale.{InScale}
 use Rattle.ints.proofs.TestLaws.{or-false}
-use Rattle.slots.specs.Checks.{misshapen, unranged}
+use Rattle.slots.specs.Checks.{unranged}
+use Rattle.slots.specs.Slot.{Slot}
 use Rattle.answers.specs.Said.{done, unless}
 use Rattle.answers.proofs.TestLaws.{clear-first}
-use Rattle.gpos.specs.Tests.{lineTests, offScale}
+use Rattle.gpos.specs.Tests.{offScale, slotTests}
 
 -- the scale is in its range
 pub in-scale : (s u : ℕ) → offScale s u ≡ false → InScale s u
@@ -20,14 +21,8 @@ in-scale s u e =
     let c = or-false (ltb u 16) (ltb 16384 u) (b .1) in
     record { s-low = ltb-false s 1 (a .0); s-high = ltb-false 32768 s (b .0); u-low = ltb-false u 16 (c .0); u-high = ltb-false 16384 u (c .1) }
 
--- the line is whole slots, and the number is in its range
-pub record Clear (l : List ℕ) (direction : ℕ) (badNumber : Bool) : Type 0 where
-  pub shape : misshapen l ≡ false
-  pub number : badNumber ≡ false
-
-pub clear : (l : List ℕ) (direction : ℕ) (badNumber : Bool) → unless (lineTests l direction badNumber) done ≡ done → Clear l direction badNumber
-clear l direction badNumber e =
-    let one = clear-first (misshapen l) 1 ((ltb 3 direction, 2) ∷ (badNumber, 3) ∷ (unranged l, 4) ∷ []) e in
-    let two = clear-first (ltb 3 direction) 2 ((badNumber, 3) ∷ (unranged l, 4) ∷ []) (one .1) in
-    let three = clear-first badNumber 3 ((unranged l, 4) ∷ []) (two .1) in
-    record { shape = one .0; number = three .0 }
+-- the number is in its range
+pub number-good : (ss : List Slot) (direction : ℕ) (badNumber : Bool) → unless (slotTests ss direction badNumber) done ≡ done → badNumber ≡ false
+number-good ss direction badNumber e =
+    let two = clear-first (ltb 3 direction) 2 ((badNumber, 3) ∷ (unranged ss, 4) ∷ []) e in
+    clear-first badNumber 3 ((unranged ss, 4) ∷ []) (two .1) .0

@@ -5,41 +5,50 @@ use mathlib.Core.List.{List}
 use Prim.Native.Nat.{ℕ}
 use Rattle.marks.specs.declared.subtable.Kind.{Kind}
 use Rattle.answers.specs.declared.Neighbour.{Neighbour}
-use Rattle.answers.specs.Said.{said, saidDone}
+use Rattle.answers.specs.Said.{said, saidDone, saidMoved}
 use Rattle.answers.proofs.OutcomeLaws.{one-outcome}
-use Rattle.answers.proofs.SaidLaws.{said-same, saidDone-same}
+use Rattle.answers.proofs.SaidLaws.{said-same, saidDone-same, saidMoved-same}
 use Rattle.gpos.specs.Start.{Started}
 use Rattle.gpos.specs.Finish.{Finished}
 use Rattle.gpos.specs.Single.{Singled}
 use Rattle.gpos.specs.Pair.{Paired}
 use Rattle.gpos.specs.Cursive.{Cursived}
 use Rattle.gpos.specs.Marks.{Marked}
+use Rattle.gpos.specs.Moves.{Clustered, Unclustered}
 
 -- at most one answer and one line meet a contract
 abbrev pub Unique : {R : Type 0} → (R → List ℕ → Type 0) → Type 0
 Unique {R} Meets = (r₁ r₂ : R) (l₁ l₂ : List ℕ) → Meets r₁ l₁ → Meets r₂ l₂ → (r₁ ≡ r₂) × (l₁ ≡ l₂)
 
 -- gpos::start
-pub start-unique : (l : List ℕ) → Unique (Started l)
-start-unique l r₁ r₂ l₁ l₂ p q = one-outcome saidDone saidDone-same l _ _ l₁ l₂ r₁ r₂ p q
+pub start-unique : (z : ℕ) (l : List ℕ) → Unique (Started z l)
+start-unique z l r₁ r₂ l₁ l₂ p q = one-outcome saidDone saidDone-same z l _ _ l₁ l₂ r₁ r₂ p q
 
 -- gpos::finish
-pub finish-unique : (l : List ℕ) (direction limit : ℕ) (flag : Bool) → Unique (Finished l direction limit flag)
-finish-unique l direction limit flag r₁ r₂ l₁ l₂ p q = one-outcome saidDone saidDone-same l _ _ l₁ l₂ r₁ r₂ p q
+pub finish-unique : (z : ℕ) (l : List ℕ) (direction limit : ℕ) (flag : Bool) → Unique (Finished z l direction limit flag)
+finish-unique z l direction limit flag r₁ r₂ l₁ l₂ p q = one-outcome saidDone saidDone-same z l _ _ l₁ l₂ r₁ r₂ p q
 
-module _ (l t : List ℕ) (direction s u i : ℕ) where
+module _ (z : ℕ) (l t : List ℕ) (direction s u i : ℕ) where
   -- gpos::single
-  pub single-unique : Unique (Singled l t direction s u i)
-  single-unique r₁ r₂ l₁ l₂ p q = one-outcome said said-same l _ _ l₁ l₂ r₁ r₂ p q
+  pub single-unique : Unique (Singled z l t direction s u i)
+  single-unique r₁ r₂ l₁ l₂ p q = one-outcome said said-same z l _ _ l₁ l₂ r₁ r₂ p q
 
   -- gpos::pair
-  pub pair-unique : (second : Neighbour) → Unique (Paired l t direction s u i second)
-  pair-unique second r₁ r₂ l₁ l₂ p q = one-outcome said said-same l _ _ l₁ l₂ r₁ r₂ p q
+  pub pair-unique : (second : Neighbour) → Unique (Paired z l t direction s u i second)
+  pair-unique second r₁ r₂ l₁ l₂ p q = one-outcome said said-same z l _ _ l₁ l₂ r₁ r₂ p q
 
   -- gpos::cursive
-  pub cursive-unique : (previous : Neighbour) (flag : ℕ) → Unique (Cursived l t direction s u i previous flag)
-  cursive-unique previous flag r₁ r₂ l₁ l₂ p q = one-outcome said said-same l _ _ l₁ l₂ r₁ r₂ p q
+  pub cursive-unique : (previous : Neighbour) (flag : ℕ) → Unique (Cursived z l t direction s u i previous flag)
+  cursive-unique previous flag r₁ r₂ l₁ l₂ p q = one-outcome said said-same z l _ _ l₁ l₂ r₁ r₂ p q
 
   -- gpos::mark_base and gpos::mark_ligature, by the kind
-  pub mark-unique : (kind : Kind) → Unique (Marked kind l t direction s u i)
-  mark-unique kind r₁ r₂ l₁ l₂ p q = one-outcome said said-same l _ _ l₁ l₂ r₁ r₂ p q
+  pub mark-unique : (kind : Kind) → Unique (Marked kind z l t direction s u i)
+  mark-unique kind r₁ r₂ l₁ l₂ p q = one-outcome said said-same z l _ _ l₁ l₂ r₁ r₂ p q
+
+-- gpos::to_clusters and gpos::from_clusters
+module _ (l t : List ℕ) where
+  pub to-clusters-unique : Unique (Clustered l t)
+  to-clusters-unique r₁ r₂ l₁ l₂ p q = one-outcome saidMoved saidMoved-same _ t _ _ l₁ l₂ r₁ r₂ p q
+
+  pub from-clusters-unique : Unique (Unclustered l t)
+  from-clusters-unique r₁ r₂ l₁ l₂ p q = one-outcome saidMoved saidMoved-same _ t _ _ l₁ l₂ r₁ r₂ p q

@@ -2,29 +2,23 @@
 use mathlib.Core.Bool.{not}
 use mathlib.Core.List.{List}
 use Prim.Native.Nat.{ℕ}
-use Rattle.slots.specs.Axis.{directionOf}
-use Rattle.slots.specs.Slot.{Slot}
-use Rattle.slots.specs.Line.{count, slots}
+use lib.ListN.{length}
 use Rattle.cursive.specs.Attachment.{planned}
 use Rattle.cursive.specs.CursivePos.{cursiveGood, planOf, planSaid}
-use Rattle.answers.specs.Said.{Said, said, unless}
-use Rattle.answers.specs.Outcome.{Outcome}
+use Rattle.answers.specs.Outcome.{Call, Made}
+use Rattle.answers.specs.Said.{said}
 use Rattle.answers.specs.declared.Answer.{Answer}
 use Rattle.answers.specs.declared.Neighbour.{Neighbour}
 use Rattle.gpos.specs.Neighbours.{badPrevious}
-use Rattle.gpos.specs.Tests.{applyingTests}
+use Rattle.gpos.specs.Tests.{applying}
 
--- what the call says, on the line l, with the subtable t, for slot i and the previous slot that the caller names: refusals 1 to 6; else what cursive
--- attachment says
-abbrev pub cursiveAnswer : List ℕ → List ℕ → ℕ → ℕ → ℕ → ℕ → Neighbour → Said
-cursiveAnswer l t direction s u i previous =
-    unless (applyingTests l direction s u (badPrevious (count l) i previous) (not (cursiveGood t))) (planSaid i (planOf t (slots l) i previous))
+-- the call with the subtable t, for slot i and the previous slot that the caller names, by the lookup's flag
+abbrev pub cursive : List ℕ → ℕ → ℕ → ℕ → ℕ → Neighbour → ℕ → Call
+cursive t direction s u i previous flag =
+    applying direction s u (λ ss. badPrevious (length ss) i previous) (not (cursiveGood t))
+    (λ d ss. planSaid i (planOf t ss i previous))
+    (λ d ss. planned s u d flag i (planOf t ss i previous) ss)
 
--- the slots that it leaves where it is applied, by the lookup's flag
-abbrev pub cursiveSlots : List ℕ → List ℕ → ℕ → ℕ → ℕ → ℕ → Neighbour → ℕ → List Slot
-cursiveSlots l t direction s u i previous flag = planned s u (directionOf direction) flag i (planOf t (slots l) i previous) (slots l)
-
--- the call answered r and left l′
-abbrev pub Cursived : List ℕ → List ℕ → ℕ → ℕ → ℕ → ℕ → Neighbour → ℕ → Answer → List ℕ → Type 0
-Cursived l t direction s u i previous flag r l′ =
-    Outcome l (cursiveAnswer l t direction s u i previous) (cursiveSlots l t direction s u i previous flag) (said r) l′
+-- on the line l, of slots of z bytes, it answered r and left l′
+abbrev pub Cursived : ℕ → List ℕ → List ℕ → ℕ → ℕ → ℕ → ℕ → Neighbour → ℕ → Answer → List ℕ → Type 0
+Cursived z l t direction s u i previous flag r l′ = Made (cursive t direction s u i previous flag) z l (said r) l′

@@ -4,17 +4,17 @@ use mathlib.Core.List.{List}
 use Prim.Native.Nat.{ℕ}
 use lib.Dec.{ltb}
 use Rattle.slots.specs.Axis.{directionOf}
-use Rattle.slots.specs.Line.{slots}
 use Rattle.finish.specs.Finish.{finished}
-use Rattle.answers.specs.Said.{Said, done, saidDone, unless}
-use Rattle.answers.specs.Outcome.{Outcome}
+use Rattle.answers.specs.Outcome.{Call, Made}
+use Rattle.answers.specs.Said.{done, saidDone, unless}
 use Rattle.answers.specs.declared.Done.{Done}
-use Rattle.gpos.specs.Tests.{lineTests}
+use Rattle.gpos.specs.Tests.{slotTests}
 
--- refusals 1 to 4, a nesting limit above 64 among them; else done
-abbrev pub finishSaid : List ℕ → ℕ → ℕ → Said
-finishSaid l direction limit = unless (lineTests l direction (ltb 64 limit)) done
+-- refusals 2 to 4, a nesting limit above 64 among them; else done, and the slots are finished
+abbrev pub finish : ℕ → ℕ → Bool → Call
+finish direction limit flag =
+    record { says = λ ss. unless (slotTests ss direction (ltb 64 limit)) done; leaves = finished (directionOf direction) limit flag }
 
--- finishing the line l answered r and left l′: where it is done, the slots are finished
-abbrev pub Finished : List ℕ → ℕ → ℕ → Bool → Done → List ℕ → Type 0
-Finished l direction limit flag r l′ = Outcome l (finishSaid l direction limit) (finished (directionOf direction) limit flag (slots l)) (saidDone r) l′
+-- finishing the line l, of slots of z bytes, answered r and left l′
+abbrev pub Finished : ℕ → List ℕ → ℕ → ℕ → Bool → Done → List ℕ → Type 0
+Finished z l direction limit flag r l′ = Made (finish direction limit flag) z l (saidDone r) l′

@@ -6,3 +6,4 @@ pub mod Single  -- single adjustment
 pub mod Pair  -- pair adjustment
 pub mod Cursive  -- cursive attachment
 pub mod Marks  -- mark attachment
+pub mod Moves  -- moving to slots with a cluster, and back

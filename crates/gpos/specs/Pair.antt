@@ -2,28 +2,24 @@
 use mathlib.Core.Bool.{not}
 use mathlib.Core.List.{List}
 use Prim.Native.Nat.{ℕ}
-use Rattle.slots.specs.Axis.{directionOf}
-use Rattle.slots.specs.Slot.{Slot}
-use Rattle.slots.specs.Line.{count, slots}
+use lib.ListN.{length}
 use Rattle.pair.specs.Adjustment.{planned, planSaid}
 use Rattle.pair.specs.PairPos.{pairGood}
 use Rattle.pair.specs.Plan.{planOf}
-use Rattle.answers.specs.Said.{Said, said, unless}
-use Rattle.answers.specs.Outcome.{Outcome}
+use Rattle.answers.specs.Outcome.{Call, Made}
+use Rattle.answers.specs.Said.{said}
 use Rattle.answers.specs.declared.Answer.{Answer}
 use Rattle.answers.specs.declared.Neighbour.{Neighbour}
 use Rattle.gpos.specs.Neighbours.{badSecond}
-use Rattle.gpos.specs.Tests.{applyingTests}
+use Rattle.gpos.specs.Tests.{applying}
 
--- what the call says, on the line l, with the subtable t, for slot i and the second slot that the caller names: refusals 1 to 6; else what pair adjustment says
-abbrev pub pairAnswer : List ℕ → List ℕ → ℕ → ℕ → ℕ → ℕ → Neighbour → Said
-pairAnswer l t direction s u i second =
-    unless (applyingTests l direction s u (badSecond (count l) i second) (not (pairGood t))) (planSaid (directionOf direction) t i (planOf t (slots l) i second))
+-- the call with the subtable t, for slot i and the second slot that the caller names
+abbrev pub pair : List ℕ → ℕ → ℕ → ℕ → ℕ → Neighbour → Call
+pair t direction s u i second =
+    applying direction s u (λ ss. badSecond (length ss) i second) (not (pairGood t))
+    (λ d ss. planSaid d t i (planOf t ss i second))
+    (λ d ss. planned s u d t i (planOf t ss i second) ss)
 
--- the slots that it leaves where it is applied
-abbrev pub pairSlots : List ℕ → List ℕ → ℕ → ℕ → ℕ → ℕ → Neighbour → List Slot
-pairSlots l t direction s u i second = planned s u (directionOf direction) t i (planOf t (slots l) i second) (slots l)
-
--- the call answered r and left l′
-abbrev pub Paired : List ℕ → List ℕ → ℕ → ℕ → ℕ → ℕ → Neighbour → Answer → List ℕ → Type 0
-Paired l t direction s u i second r l′ = Outcome l (pairAnswer l t direction s u i second) (pairSlots l t direction s u i second) (said r) l′
+-- on the line l, of slots of z bytes, it answered r and left l′
+abbrev pub Paired : ℕ → List ℕ → List ℕ → ℕ → ℕ → ℕ → ℕ → Neighbour → Answer → List ℕ → Type 0
+Paired z l t direction s u i second r l′ = Made (pair t direction s u i second) z l (said r) l′

@@ -1,17 +1,16 @@
 -- Starting a line: what it says, and the line afterwards. Assumes nothing.
 use mathlib.Core.List.{List, [], _∷_}
 use Prim.Native.Nat.{ℕ}
-use Rattle.slots.specs.Line.{slots}
-use Rattle.slots.specs.Checks.{misshapen, unranged}
+use Rattle.slots.specs.Checks.{unranged}
 use Rattle.slots.specs.Start.{started}
-use Rattle.answers.specs.Said.{Said, done, saidDone, unless}
-use Rattle.answers.specs.Outcome.{Outcome}
+use Rattle.answers.specs.Outcome.{Call, Made}
+use Rattle.answers.specs.Said.{done, saidDone, unless}
 use Rattle.answers.specs.declared.Done.{Done}
 
--- refusals 1 and 4; else done
-abbrev pub startSaid : List ℕ → Said
-startSaid l = unless ((misshapen l, 1) ∷ (unranged l, 4) ∷ []) done
+-- refusal 4; else done, and every slot has chain and type 0 and is else as it was
+abbrev pub start : Call
+start = record { says = λ ss. unless ((unranged ss, 4) ∷ []) done; leaves = started }
 
--- starting the line l answered r and left l′: where it is done, every slot has chain and type 0 and is else as it was
-abbrev pub Started : List ℕ → Done → List ℕ → Type 0
-Started l r l′ = Outcome l (startSaid l) (started (slots l)) (saidDone r) l′
+-- starting the line l, of slots of z bytes, answered r and left l′
+abbrev pub Started : ℕ → List ℕ → Done → List ℕ → Type 0
+Started z l r l′ = Made start z l (saidDone r) l′

@@ -3,20 +3,33 @@ use mathlib.Core.Bool.{Bool, _||_}
 use mathlib.Core.List.{List, [], _∷_, _++_}
 use Prim.Native.Nat.{ℕ}
 use lib.Dec.{ltb}
-use Rattle.slots.specs.Checks.{misshapen, unranged}
+use Rattle.slots.specs.Axis.{directionOf}
+use Rattle.slots.specs.Checks.{unranged}
+use Rattle.slots.specs.Slot.{Slot}
+use Rattle.slots.specs.declared.axis.Direction.{Direction}
+use Rattle.answers.specs.Outcome.{Call}
+use Rattle.answers.specs.Said.{Said, unless}
 
 -- s not from 1 to 32,768, or u not from 16 to 16,384
 abbrev pub offScale : ℕ → ℕ → Bool
 offScale s u = ltb s 1 || (ltb 32768 s || (ltb u 16 || ltb 16384 u))
 
--- refusals 1 to 4: the line's length, the direction, a number out of its range, a slot out of range
-abbrev pub lineTests : List ℕ → ℕ → Bool → List (Bool × ℕ)
-lineTests l direction badNumber = (misshapen l, 1) ∷ (ltb 3 direction, 2) ∷ (badNumber, 3) ∷ (unranged l, 4) ∷ []
+-- refusals 2 to 4: the direction, a number out of its range, a slot out of range
+abbrev pub slotTests : List Slot → ℕ → Bool → List (Bool × ℕ)
+slotTests ss direction badNumber = (ltb 3 direction, 2) ∷ (badNumber, 3) ∷ (unranged ss, 4) ∷ []
 
--- refusals 1 to 5 of an applying call: besides these, a bad index or neighbour
-abbrev pub callTests : List ℕ → ℕ → ℕ → ℕ → Bool → List (Bool × ℕ)
-callTests l direction s u badIndex = lineTests l direction (offScale s u) ++ ((badIndex, 5) ∷ [])
+-- refusals 2 to 5 of an applying call: besides these, a bad index or neighbour
+abbrev pub callTests : List Slot → ℕ → ℕ → ℕ → Bool → List (Bool × ℕ)
+callTests ss direction s u badIndex = slotTests ss direction (offScale s u) ++ ((badIndex, 5) ∷ [])
 
--- refusals 1 to 6: and a bad subtable
-abbrev pub applyingTests : List ℕ → ℕ → ℕ → ℕ → Bool → Bool → List (Bool × ℕ)
-applyingTests l direction s u badIndex badSubtable = callTests l direction s u badIndex ++ ((badSubtable, 6) ∷ [])
+-- refusals 2 to 6: and a bad subtable
+abbrev pub applyingTests : List Slot → ℕ → ℕ → ℕ → Bool → Bool → List (Bool × ℕ)
+applyingTests ss direction s u badIndex badSubtable = callTests ss direction s u badIndex ++ ((badSubtable, 6) ∷ [])
+
+-- an applying call: refusals 2 to 6, by whether its index is bad in these slots and its subtable is; else what its core says, and the slots that the core leaves
+abbrev pub applying : ℕ → ℕ → ℕ → (List Slot → Bool) → Bool → (Direction → List Slot → Said) → (Direction → List Slot → List Slot) → Call
+applying direction s u badIndex badSubtable says leaves =
+    record {
+      says = λ ss. unless (applyingTests ss direction s u (badIndex ss) badSubtable) (says (directionOf direction) ss);
+      leaves = leaves (directionOf direction);
+    }

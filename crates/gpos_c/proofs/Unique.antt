@@ -5,13 +5,14 @@ use Prim.Native.Nat.{ℕ}
 use Rattle.gpos.specs.Cursive.{Cursived}
 use Rattle.gpos.specs.Finish.{Finished}
 use Rattle.gpos.specs.Marks.{Marked}
+use Rattle.gpos.specs.Moves.{Clustered, Unclustered}
 use Rattle.gpos.specs.Pair.{Paired}
 use Rattle.gpos.specs.Single.{Singled}
 use Rattle.gpos.specs.Start.{Started}
 use Rattle.gpos.proofs.Unique.{Unique}
 use Rattle.gpos.proofs.Unique as gpos
 use Rattle.marks.specs.declared.subtable.Kind.{Kind}
-use Rattle.gpos_c.specs.Layout.{doneNumber, flat, Laid, neighbour, set}
+use Rattle.gpos_c.specs.Layout.{doneNumber, flat, Laid, movedNumber, neighbour, set}
 
 -- where a call leaves one answer and one line, so does its export
 module _ {A : Type 0} {C : Type 0} (layout : A → C) (May : A → List ℕ → Type 0) (one : Unique May) where
@@ -20,22 +21,29 @@ module _ {A : Type 0} {C : Type 0} (layout : A → C) (May : A → List ℕ → 
       let same = one (p .answer) (q .answer) l₁ l₂ (p .may) (q .may) in
       (p .numbers ∙ ap layout (same .0) ∙ sym (q .numbers), same .1)
 
-pub start-unique : (l : List ℕ) → Unique (λ (r : ℕ) (l′ : List ℕ). Laid doneNumber (λ d. Started l d l′) r)
-start-unique l = laid-unique doneNumber (Started l) (gpos.start-unique l)
+pub start-unique : (z : ℕ) (l : List ℕ) → Unique (λ (r : ℕ) (l′ : List ℕ). Laid doneNumber (λ d. Started z l d l′) r)
+start-unique z l = laid-unique doneNumber (Started z l) (gpos.start-unique z l)
 
-pub finish-unique : (l : List ℕ) (direction limit attachments : ℕ) → Unique (λ (r : ℕ) (l′ : List ℕ). Laid doneNumber (λ d. Finished l direction limit (set attachments) d l′) r)
-finish-unique l direction limit attachments = laid-unique doneNumber (Finished l direction limit (set attachments)) (gpos.finish-unique l direction limit (set attachments))
+pub finish-unique : (z : ℕ) (l : List ℕ) (direction limit attachments : ℕ) → Unique (λ (r : ℕ) (l′ : List ℕ). Laid doneNumber (λ d. Finished z l direction limit (set attachments) d l′) r)
+finish-unique z l direction limit attachments = laid-unique doneNumber (Finished z l direction limit (set attachments)) (gpos.finish-unique z l direction limit (set attachments))
 
-module _ (l t : List ℕ) (direction s u i : ℕ) where
-  pub single-unique : Unique (λ r (l′ : List ℕ). Laid flat (λ a. Singled l t direction s u i a l′) r)
-  single-unique = laid-unique flat (Singled l t direction s u i) (gpos.single-unique l t direction s u i)
+module _ (z : ℕ) (l t : List ℕ) (direction s u i : ℕ) where
+  pub single-unique : Unique (λ r (l′ : List ℕ). Laid flat (λ a. Singled z l t direction s u i a l′) r)
+  single-unique = laid-unique flat (Singled z l t direction s u i) (gpos.single-unique z l t direction s u i)
 
-  pub pair-unique : (missing second : ℕ) → Unique (λ r (l′ : List ℕ). Laid flat (λ a. Paired l t direction s u i (neighbour missing second) a l′) r)
-  pair-unique missing second = laid-unique flat (Paired l t direction s u i (neighbour missing second)) (gpos.pair-unique l t direction s u i (neighbour missing second))
+  pub pair-unique : (missing second : ℕ) → Unique (λ r (l′ : List ℕ). Laid flat (λ a. Paired z l t direction s u i (neighbour missing second) a l′) r)
+  pair-unique missing second = laid-unique flat (Paired z l t direction s u i (neighbour missing second)) (gpos.pair-unique z l t direction s u i (neighbour missing second))
 
-  pub cursive-unique : (missing previous flag : ℕ) → Unique (λ r (l′ : List ℕ). Laid flat (λ a. Cursived l t direction s u i (neighbour missing previous) flag a l′) r)
+  pub cursive-unique : (missing previous flag : ℕ) → Unique (λ r (l′ : List ℕ). Laid flat (λ a. Cursived z l t direction s u i (neighbour missing previous) flag a l′) r)
   cursive-unique missing previous flag =
-      laid-unique flat (Cursived l t direction s u i (neighbour missing previous) flag) (gpos.cursive-unique l t direction s u i (neighbour missing previous) flag)
+      laid-unique flat (Cursived z l t direction s u i (neighbour missing previous) flag) (gpos.cursive-unique z l t direction s u i (neighbour missing previous) flag)
 
-  pub mark-unique : (kind : Kind) → Unique (λ r (l′ : List ℕ). Laid flat (λ a. Marked kind l t direction s u i a l′) r)
-  mark-unique kind = laid-unique flat (Marked kind l t direction s u i) (gpos.mark-unique l t direction s u i kind)
+  pub mark-unique : (kind : Kind) → Unique (λ r (l′ : List ℕ). Laid flat (λ a. Marked kind z l t direction s u i a l′) r)
+  mark-unique kind = laid-unique flat (Marked kind z l t direction s u i) (gpos.mark-unique z l t direction s u i kind)
+
+module _ (l t : List ℕ) where
+  pub to-clusters-unique : Unique (λ (r : ℕ) (t′ : List ℕ). Laid movedNumber (λ m. Clustered l t m t′) r)
+  to-clusters-unique = laid-unique movedNumber (Clustered l t) (gpos.to-clusters-unique l t)
+
+  pub from-clusters-unique : Unique (λ (r : ℕ) (t′ : List ℕ). Laid movedNumber (λ m. Unclustered l t m t′) r)
+  from-clusters-unique = laid-unique movedNumber (Unclustered l t) (gpos.from-clusters-unique l t)

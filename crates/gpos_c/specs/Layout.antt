@@ -15,6 +15,8 @@ use Rattle.answers.specs.declared.Hazards.{Hazards}
 use Rattle.answers.specs.declared.Hazards.the-variants.{None, One, Two}
 use Rattle.answers.specs.declared.Answer.{Answer}
 use Rattle.answers.specs.declared.Answer.the-variants.{Applied, Declined, Refused}
+use Rattle.answers.specs.declared.Moved.{Moved}
+use Rattle.answers.specs.declared.Moved.the-variants.{Done as MovedNow, Refused as NotMoved, Unfit}
 use Rattle.answers.specs.declared.Done.{Done}
 use Rattle.answers.specs.declared.Done.the-variants.{Done as DoneNow, Refused as NotDone}
 use Rattle.gpos_c.specs.declared.layout.CHazard.{CHazard}
@@ -28,6 +30,12 @@ set n = not (eqb n 0)
 abbrev pub doneNumber : Done → ℕ
 doneNumber DoneNow = 0
 doneNumber (NotDone r) = refusalNumber r
+
+-- the moves: the same, and refusal 10
+abbrev pub movedNumber : Moved → ℕ
+movedNumber MovedNow = 0
+movedNumber (NotMoved r) = refusalNumber r
+movedNumber Unfit = 10
 
 -- unsafe to break, unsafe to concatenate
 abbrev pub kindNumber : Kind → ℕ

@@ -4,12 +4,13 @@ use answers::Done;
 use answers::Hazard;
 use answers::Hazards;
 use answers::Kind;
+use answers::Moved;
 use answers::Neighbour;
 use answers::Refusal;
 use answers::refusal_number;
 ghost use mathlib.Core.Path.{_≡_};
 ghost use Rattle.answers.specs.declared.Answer.the-variants.{Applied, Declined, Refused};
-ghost use Rattle.gpos_c.specs.Layout.{kindNumber, hazardOf, noHazard, firstOf, secondOf, countOf, flag, flat, doneNumber, neighbour, set};
+ghost use Rattle.gpos_c.specs.Layout.{kindNumber, hazardOf, noHazard, firstOf, secondOf, countOf, flag, flat, doneNumber, movedNumber, neighbour, set};
 
 #[repr(C)]
 pub struct CHazard {
@@ -55,6 +56,17 @@ pub fn done_number(d: Done) -> u32
     match d {
         Done::Done => 0,
         Done::Refused(x) => refusal_number(x),
+    }
+}
+
+// The same of a move, which has refusal 10 besides.
+pub fn moved_number(m: Moved) -> u32
+    ensures { λ r. ⌜ r ≡ movedNumber m ⌝ }
+{
+    match m {
+        Moved::Done => 0,
+        Moved::Refused(x) => refusal_number(x),
+        Moved::Unfit => 10,
     }
 }
 

@@ -44,6 +44,7 @@ glyphAt g i c f t n y =
       yAdvance = pos 0;
       xOffset = pos 0;
       yOffset = y;
+      cluster = 0;
     }
 
 -- a slot of a ligature with this id, or a mark of one, at this component
@@ -108,10 +109,10 @@ pub record Worked : Type 0 where
   pub uncovered : planOf Base Y (subtable 4) (part 0 0 ∷ part 0 0 ∷ part 0 0 ∷ []) 2 ≡ stop (concat 1 3 ∷ [])
   -- attached, left to right: base anchor less mark anchor, scaled once, and across the line the base's walk
   pub across-y : slot (planned 500 1000 LeftToRight 2 (hang 0 (spot (pos 100) (pos 205)) (spot (pos 10) (pos 20)) (pos 30)) plain) 2
-      ≡ record { glyph = 9; ligatureId = 0; component = 0; flags = 2; attachType = 1; chain = negsuc 1; xAdvance = pos 600; yAdvance = pos 0; xOffset = pos 45; yOffset = pos 123 }
+      ≡ record { glyph = 9; ligatureId = 0; component = 0; flags = 2; attachType = 1; chain = negsuc 1; xAdvance = pos 600; yAdvance = pos 0; xOffset = pos 45; yOffset = pos 123; cluster = 0 }
   -- top to bottom the walk goes to x
   pub across-x : slot (planned 500 1000 TopToBottom 2 (hang 0 (spot (pos 100) (pos 205)) (spot (pos 10) (pos 20)) (pos 30)) plain) 2
-      ≡ record { glyph = 9; ligatureId = 0; component = 0; flags = 2; attachType = 1; chain = negsuc 1; xAdvance = pos 600; yAdvance = pos 0; xOffset = pos 75; yOffset = pos 93 }
+      ≡ record { glyph = 9; ligatureId = 0; component = 0; flags = 2; attachType = 1; chain = negsuc 1; xAdvance = pos 600; yAdvance = pos 0; xOffset = pos 75; yOffset = pos 93; cluster = 0 }
   pub passes : planSaid 2 (planOf Base Y (subtable 4) plain 2) ≡ applied 3 (break 0 3 ∷ []) true
 
 pub worked : Worked

@@ -2,6 +2,7 @@
 use crate::component::component_index;
 use crate::subtable::Kind;
 use ints::big_endian::read_u16;
+use slots::shape::Shape;
 use tables::anchor::Anchor;
 use tables::anchor::Point;
 use tables::anchor_rows::Rows;
@@ -11,7 +12,7 @@ use tables::part::table_at;
 ghost use mathlib.Core.Bool.{true};
 ghost use mathlib.Core.Path.{_≡_};
 ghost use Prim.Native.Nat.{_<_};
-ghost use Rattle.slots.specs.Line.{count, slot, slots};
+ghost use Rattle.slots.specs.Line.{Inside, slot, slots};
 ghost use Rattle.tables.specs.Anchor.{AnchorNear, Near16, spot, spotOf};
 ghost use Rattle.tables.specs.MarkArray.{MarkNear, markSpot};
 ghost use Rattle.marks.specs.Meant.{anchorsOf, FoundNear};
@@ -43,13 +44,13 @@ fn row_table<'a>(t: &'a [u8], kind: Kind, k: usize) -> &'a [u8]
 }
 
 // The row of base k, or of the mark's component in a ligature of n.
-fn row_for(line: &[u8], kind: Kind, k: usize, n: usize, idx: usize, b: usize) -> usize
-    requires { ⌜ (idx < count (now line)) × (b < count (now line)) × (0 < n) ⌝ }
-    ensures { λ r. ⌜ r ≡ rowFor kind k n (slot (slots (now (line .entry))) idx) (slot (slots (now (line .entry))) b) ⌝ }
+fn row_for(line: &[u8], shape: Shape, kind: Kind, k: usize, n: usize, idx: usize, b: usize) -> usize
+    requires { ⌜ Inside shape (now line) idx × Inside shape (now line) b × (0 < n) ⌝ }
+    ensures { λ r. ⌜ r ≡ rowFor kind k n (slot (slots shape (now (line .entry))) idx) (slot (slots shape (now (line .entry))) b) ⌝ }
 {
     match kind {
         Kind::Base => k,
-        Kind::Ligature => component_index(line, n, idx, b),
+        Kind::Ligature => component_index(line, shape, n, idx, b),
     }
 }
 
@@ -79,6 +80,7 @@ fn with_mark(rows: &[u8], n: usize, columns: usize, row: usize, mark: Mark) -> F
 // The anchors by which mark m, in slot idx, attaches to base k, in slot b.
 pub fn find_anchors(
     line: &[u8],
+    shape: Shape,
     t: &[u8],
     kind: Kind,
     k: usize,
@@ -86,8 +88,8 @@ pub fn find_anchors(
     idx: usize,
     b: usize,
 ) -> Found
-    requires { ⌜ (idx < count (now line)) × (b < count (now line)) × (marksGood (now t) ≡ true) ⌝ }
-    ensures { λ r. ⌜ (anchorsOf r ≡ anchorsFor kind (now (t .entry)) k m (slot (slots (now (line .entry))) idx) (slot (slots (now (line .entry))) b)) × FoundNear r ⌝ }
+    requires { ⌜ Inside shape (now line) idx × Inside shape (now line) b × (marksGood (now t) ≡ true) ⌝ }
+    ensures { λ r. ⌜ (anchorsOf r ≡ anchorsFor kind (now (t .entry)) k m (slot (slots shape (now (line .entry))) idx) (slot (slots shape (now (line .entry))) b)) × FoundNear r ⌝ }
 {
     let rows = row_table(t, kind, k);
     let columns = read_u16(t, 6) as usize;
@@ -97,7 +99,7 @@ pub fn find_anchors(
             if n == 0 {
                 return no_rows(kind);
             }
-            let row = row_for(line, kind, k, n, idx, b);
+            let row = row_for(line, shape, kind, k, n, idx, b);
             let marks = table_at(t, read_u16(t, 8) as usize);
             with_mark(rows, n, columns, row, tables::mark_array::mark_of(marks, m))
         }

@@ -14,6 +14,7 @@ use slots::axis::Axis;
 use slots::axis::Direction;
 use slots::fields::ByteField;
 use slots::fields::Measure;
+use slots::shape::Shape;
 use tables::anchor::Point;
 use tables::anchor::coordinate_on;
 ghost use mathlib.Core.Bool.{true};
@@ -23,7 +24,7 @@ ghost use Prim.Native.Nat.{_+_, _-_, _≤_, _<_};
 ghost use Rattle.ints.specs.Scale.{InScale};
 ghost use Rattle.ints.specs.Signed.{val};
 ghost use Rattle.slots.specs.Axis.{cross};
-ghost use Rattle.slots.specs.Line.{count, slots, update};
+ghost use Rattle.slots.specs.Line.{Inside, slots, update};
 ghost use Rattle.tables.specs.Anchor.{Near16, spotOf};
 ghost use Rattle.answers.specs.Outcome.{Effect};
 ghost use Rattle.answers.specs.Said.{applied, break, said};
@@ -46,6 +47,7 @@ fn between_anchors(base: Point, mark: Point, a: Axis, s: u32, u: u32) -> Signed
 // The mark in slot idx hangs on slot b: type, chain, and both offsets replaced. Across the line the base's walk is added here, and not when finishing.
 pub fn hang(
     line: &mut [u8],
+    shape: Shape,
     d: Direction,
     s: u32,
     u: u32,
@@ -55,22 +57,23 @@ pub fn hang(
     mark: Point,
     walk: Signed,
 )
-    requires { ⌜ (idx < count (now line)) × (b < idx) × (idx - b ≤ 32768) × InScale s u × Near16 base × Near16 mark ⌝ }
-    ensures { λ _. ⌜ slots (now (line .exit)) ≡ update idx (hung s u d idx b (spotOf base) (spotOf mark) (val walk)) (slots (now (line .entry))) ⌝ }
+    requires { ⌜ Inside shape (now line) idx × (b < idx) × (idx - b ≤ 32768) × InScale s u × Near16 base × Near16 mark ⌝ }
+    ensures { λ _. ⌜ slots shape (now (line .exit)) ≡ update idx (hung s u d idx b (spotOf base) (spotOf mark) (val walk)) (slots shape (now (line .entry))) ⌝ }
 {
     let along = slots::axis::main_axis(d);
     let across = slots::axis::cross_axis(d);
     let cross = sat_add(between_anchors(base, mark, across, s, u), walk);
     slots::fields::set(
         line,
+        shape,
         idx,
         Measure::Offset,
         along,
         between_anchors(base, mark, along, s, u),
     );
-    slots::fields::set(line, idx, Measure::Offset, across, cross);
-    slots::fields::set_chain(line, idx, (4294967296 - (idx - b)) as u32);
-    slots::fields::set_byte(line, idx, ByteField::AttachType, 1);
+    slots::fields::set(line, shape, idx, Measure::Offset, across, cross);
+    slots::fields::set_chain(line, shape, idx, (4294967296 - (idx - b)) as u32);
+    slots::fields::set_byte(line, shape, idx, ByteField::AttachType, 1);
 }
 
 // The mark was passed: break from what was found up to it.
@@ -88,6 +91,7 @@ fn passed(idx: usize, b: usize, attached: bool) -> Answer
 // The core: everything has been checked. A mark whose base is too far for a chain of 16 bits is left unattached.
 pub fn attach(
     line: &mut [u8],
+    shape: Shape,
     t: &[u8],
     kind: Kind,
     d: Direction,
@@ -95,19 +99,19 @@ pub fn attach(
     u: u32,
     idx: usize,
 ) -> Answer
-    requires { ⌜ (idx < count (now line)) × InScale s u × (marksGood (now t) ≡ true) ⌝ }
-    ensures { λ r. ⌜ Effect (slots (now (line .entry))) (planSaid idx (planOf kind (cross d) (now (t .entry)) (slots (now (line .entry))) idx)) (planned s u d idx (planOf kind (cross d) (now (t .entry)) (slots (now (line .entry))) idx) (slots (now (line .entry)))) (said r) (slots (now (line .exit))) ⌝ }
+    requires { ⌜ Inside shape (now line) idx × InScale s u × (marksGood (now t) ≡ true) ⌝ }
+    ensures { λ r. ⌜ Effect (slots shape (now (line .entry))) (planSaid idx (planOf kind (cross d) (now (t .entry)) (slots shape (now (line .entry))) idx)) (planned s u d idx (planOf kind (cross d) (now (t .entry)) (slots shape (now (line .entry))) idx) (slots shape (now (line .entry)))) (said r) (slots shape (now (line .exit))) ⌝ }
 {
-    let decision = decide(line, t, kind, slots::axis::cross_axis(d), idx);
+    let decision = decide(line, shape, t, kind, slots::axis::cross_axis(d), idx);
     match decision {
         Decision::Stop(hazards) => Answer::Declined { hazards: hazards },
         Decision::Endless => Answer::Refused(Refusal::Endless),
         Decision::Hang(b, base, mark, walk) => {
             if 32768 < idx - b {
-                slots::fields::set_chain(line, idx, 0);
+                slots::fields::set_chain(line, shape, idx, 0);
                 return passed(idx, b, false);
             }
-            hang(line, d, s, u, idx, b, base, mark, walk);
+            hang(line, shape, d, s, u, idx, b, base, mark, walk);
             passed(idx, b, true)
         }
     }

@@ -5,9 +5,10 @@ use slots::axis::Axis;
 use slots::fields::ByteField;
 use slots::fields::Measure;
 use slots::parent::Parent;
+use slots::shape::Shape;
 ghost use mathlib.Core.Path.{_≡_};
 ghost use Prim.Native.Nat.{_<_};
-ghost use Rattle.slots.specs.Line.{count, slots};
+ghost use Rattle.slots.specs.Line.{Inside, slots};
 ghost use Rattle.marks.specs.Meant.{walkOf};
 ghost use Rattle.marks.specs.Walk.{climb, crossWalk};
 
@@ -18,32 +19,32 @@ pub enum Walk {
 }
 
 // Where the walk goes on from slot i: a type without the cursive bit leads nowhere.
-fn climb_from(line: &[u8], i: usize) -> Parent
-    requires { ⌜ i < count (now line) ⌝ }
-    ensures { λ r. ⌜ r ≡ climb (slots (now (line .entry))) i ⌝ }
+fn climb_from(line: &[u8], shape: Shape, i: usize) -> Parent
+    requires { ⌜ Inside shape (now line) i ⌝ }
+    ensures { λ r. ⌜ r ≡ climb (slots shape (now (line .entry))) i ⌝ }
 {
-    let kind = slots::fields::get_byte(line, i, ByteField::AttachType);
+    let kind = slots::fields::get_byte(line, shape, i, ByteField::AttachType);
     if slots::fields::cursive_bit(kind) {
-        return slots::parent::parent_of(line, i);
+        return slots::parent::parent_of(line, shape, i);
     }
     Parent::None
 }
 
 // The cross offset of slot i, summed along its cursive chain, from the slot outward.
-pub fn cross_walk(line: &[u8], a: Axis, i: usize) -> Walk
-    requires { ⌜ i < count (now line) ⌝ }
-    ensures { λ r. ⌜ walkOf r ≡ crossWalk a (slots (now (line .entry))) i ⌝ }
+pub fn cross_walk(line: &[u8], shape: Shape, a: Axis, i: usize) -> Walk
+    requires { ⌜ Inside shape (now line) i ⌝ }
+    ensures { λ r. ⌜ walkOf r ≡ crossWalk a (slots shape (now (line .entry))) i ⌝ }
 {
-    let mut left = slots::fields::slot_count(line);
+    let mut left = shape.count;
     let mut at = i;
-    let mut sum = slots::fields::get(line, i, Measure::Offset, a);
+    let mut sum = slots::fields::get(line, shape, i, Measure::Offset, a);
     while 0 < left {
-        match climb_from(line, at) {
+        match climb_from(line, shape, at) {
             Parent::None => return Walk::Sum(sum),
             Parent::Outside => return Walk::Sum(sum),
             Parent::At(j) => {
                 at = j;
-                sum = sat_add(sum, slots::fields::get(line, j, Measure::Offset, a));
+                sum = sat_add(sum, slots::fields::get(line, shape, j, Measure::Offset, a));
                 left -= 1;
             }
         }

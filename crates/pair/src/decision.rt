@@ -7,12 +7,13 @@ use answers::Hazards;
 use answers::Neighbour;
 use answers::concat_from;
 use ints::big_endian::read_u16;
+use slots::shape::Shape;
 use tables::coverage::Covered;
 ghost use mathlib.Core.Bool.{true};
 ghost use mathlib.Core.Path.{_≡_};
 ghost use Prim.Native.Nat.{_≤_, _<_};
 ghost use lib.ListN.{drop, length};
-ghost use Rattle.slots.specs.Line.{count, slots};
+ghost use Rattle.slots.specs.Line.{Inside, slots};
 ghost use Rattle.tables.specs.Header.{posFormat};
 ghost use Rattle.tables.specs.Part.{tableAt};
 ghost use Rattle.pair.specs.Meant.{After, meant, Sound};
@@ -93,42 +94,49 @@ fn from_classes(t: &[u8], n: usize, idx: usize, second: usize, c1: u32, c2: u32)
     Decision::Adjust(0, at, second)
 }
 
-fn from_second(line: &[u8], t: &[u8], idx: usize, k: usize, second: usize) -> Decision
-    requires { ⌜ (pairGood (now t) ≡ true) × (idx < second) × (second < count (now line)) ⌝ }
-    ensures { λ r. ⌜ (meant (now (t .entry)) r ≡ fromSecond (now (t .entry)) (slots (now (line .entry))) idx k second) × Sound (now (t .entry)) (count (now (line .entry))) idx r ⌝ }
+fn from_second(line: &[u8], shape: Shape, t: &[u8], idx: usize, k: usize, second: usize) -> Decision
+    requires { ⌜ (pairGood (now t) ≡ true) × (idx < second) × Inside shape (now line) second ⌝ }
+    ensures { λ r. ⌜ (meant (now (t .entry)) r ≡ fromSecond (now (t .entry)) (slots shape (now (line .entry))) idx k second) × Sound (now (t .entry)) (shape .count) idx r ⌝ }
 {
-    let n = slots::fields::slot_count(line);
-    let glyph = slots::fields::glyph(line, second);
+    let n = shape.count;
+    let glyph = slots::fields::glyph(line, shape, second);
     if read_u16(t, 0) == 1 {
         return from_set(t, k, n, idx, second, glyph);
     }
     let c1 = tables::class_def::class_at(
         t,
         read_u16(t, 8) as usize,
-        slots::fields::glyph(line, idx),
+        slots::fields::glyph(line, shape, idx),
     );
     let c2 = tables::class_def::class_at(t, read_u16(t, 10) as usize, glyph);
     from_classes(t, n, idx, second, c1, c2)
 }
 
-fn from_neighbour(line: &[u8], t: &[u8], idx: usize, k: usize, neighbour: Neighbour) -> Decision
-    requires { ⌜ (pairGood (now t) ≡ true) × (idx < count (now line)) × After (count (now line)) idx neighbour ⌝ }
-    ensures { λ r. ⌜ (meant (now (t .entry)) r ≡ fromNeighbour (now (t .entry)) (slots (now (line .entry))) idx k neighbour) × Sound (now (t .entry)) (count (now (line .entry))) idx r ⌝ }
+fn from_neighbour(
+    line: &[u8],
+    shape: Shape,
+    t: &[u8],
+    idx: usize,
+    k: usize,
+    neighbour: Neighbour,
+) -> Decision
+    requires { ⌜ (pairGood (now t) ≡ true) × Inside shape (now line) idx × After (shape .count) idx neighbour ⌝ }
+    ensures { λ r. ⌜ (meant (now (t .entry)) r ≡ fromNeighbour (now (t .entry)) (slots shape (now (line .entry))) idx k neighbour) × Sound (now (t .entry)) (shape .count) idx r ⌝ }
 {
     match neighbour {
-        Neighbour::At(second) => from_second(line, t, idx, k, second),
+        Neighbour::At(second) => from_second(line, shape, t, idx, k, second),
         Neighbour::Missing(e) => Decision::Stop(concat_from(idx, e)),
     }
 }
 
 // Which record the pair of slot idx and its named neighbour has. Coverage comes first.
-pub fn decide(line: &[u8], t: &[u8], idx: usize, neighbour: Neighbour) -> Decision
-    requires { ⌜ (pairGood (now t) ≡ true) × (idx < count (now line)) × After (count (now line)) idx neighbour ⌝ }
-    ensures { λ r. ⌜ (meant (now (t .entry)) r ≡ planOf (now (t .entry)) (slots (now (line .entry))) idx neighbour) × Sound (now (t .entry)) (count (now (line .entry))) idx r ⌝ }
+pub fn decide(line: &[u8], shape: Shape, t: &[u8], idx: usize, neighbour: Neighbour) -> Decision
+    requires { ⌜ (pairGood (now t) ≡ true) × Inside shape (now line) idx × After (shape .count) idx neighbour ⌝ }
+    ensures { λ r. ⌜ (meant (now (t .entry)) r ≡ planOf (now (t .entry)) (slots shape (now (line .entry))) idx neighbour) × Sound (now (t .entry)) (shape .count) idx r ⌝ }
 {
-    let covered = first_index(t, slots::fields::glyph(line, idx));
+    let covered = first_index(t, slots::fields::glyph(line, shape, idx));
     match covered {
-        Covered::At(k) => from_neighbour(line, t, idx, k, neighbour),
+        Covered::At(k) => from_neighbour(line, shape, t, idx, k, neighbour),
         Covered::Not => Decision::Stop(Hazards::None),
     }
 }

@@ -59,7 +59,7 @@ pub hazard-by-last : (h g : CHazard) (n : ℕ) → h .kind ≡ g .kind → h .st
 hazard-by-last h g n kind start e = tested n (h .end) (λ p. hazard-same kind start (sym p ∙ e)) (λ p. e ∙ sym (ap (λ (x : CHazard). x .end) p))
 
 -- where the refusal agrees, the test of the status decides
-pub done-by-status : (head : List ℕ) (given status n : ℕ) → (if eqb given 0 then 0 else 3) ≡ status → numberAt head 13 ≡ given → n ≡ numberAt head 12 → eqb n status ≡ true ↔ RecordedDone head given
+pub done-by-status : (head : List ℕ) (given status n : ℕ) → (if eqb given 0 then 0 else 3) ≡ status → numberAt head 14 ≡ given → n ≡ numberAt head 13 → eqb n status ≡ true ↔ RecordedDone head given
 done-by-status head given status n s refusal e = tested n status (λ p. record { status = sym e ∙ p ∙ sym s; refusal = refusal }) (λ p. e ∙ p .status ∙ s)
 
 -- answers with the same numbers are the same
@@ -69,11 +69,11 @@ answer-same status refusal attached hazards next hazard =
 
 module _ (head : List ℕ) (a : CAnswer) (d : CHazard) (r : Bool) where
   -- where the first hazard is another, so is the answer
-  pub other-first : (r ≡ true ↔ getD (a .hazard) 0 d ≡ recordedHazard head 17) → r ≡ false → false ≡ true ↔ a ≡ recordedAnswer head
+  pub other-first : (r ≡ true ↔ getD (a .hazard) 0 d ≡ recordedHazard head 18) → r ≡ false → false ≡ true ↔ a ≡ recordedAnswer head
   other-first first n = refuted (λ p. let e = first .1 (ap (λ (x : CAnswer). getD (x .hazard) 0 d) p) in clash (cc))
 
   -- where all but the second hazard agrees, that one decides
-  pub answer-by-second : length (a .hazard) ≡ 2 → a .status ≡ numberAt head 12 → a .refusal ≡ numberAt head 13 → a .attached ≡ numberAt head 14 → a .hazards ≡ numberAt head 15 → a .next ≡ numberAt head 16
-      → getD (a .hazard) 0 d ≡ recordedHazard head 17 → (r ≡ true ↔ getD (a .hazard) 1 d ≡ recordedHazard head 20) → r ≡ true ↔ a ≡ recordedAnswer head
+  pub answer-by-second : length (a .hazard) ≡ 2 → a .status ≡ numberAt head 13 → a .refusal ≡ numberAt head 14 → a .attached ≡ numberAt head 15 → a .hazards ≡ numberAt head 16 → a .next ≡ numberAt head 17
+      → getD (a .hazard) 0 d ≡ recordedHazard head 18 → (r ≡ true ↔ getD (a .hazard) 1 d ≡ recordedHazard head 21) → r ≡ true ↔ a ≡ recordedAnswer head
   answer-by-second n status refusal attached hazards next first second =
       (λ p. let e = second .0 p in answer-same status refusal attached hazards next (cc (two d (a .hazard) n)), λ p. second .1 (ap (λ (x : CAnswer). getD (x .hazard) 1 d) p))

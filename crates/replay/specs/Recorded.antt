@@ -1,4 +1,4 @@
--- What the head of a call records: 23 numbers, those of the call and those of the answer that the Rust gave. Assumes nothing.
+-- What the head of a call records: 24 numbers, those of the call and those of its answer. Assumes nothing.
 use mathlib.Core.List.{List, [], _∷_}
 use mathlib.Core.Path.{_≡_}
 use Prim.Native.Nat.{ℕ, _+_, _*_}
@@ -19,15 +19,15 @@ recordedHazard head k = record { kind = numberAt head k; start = numberAt head (
 -- the answer of an applying call
 abbrev pub recordedAnswer : List ℕ → CAnswer
 recordedAnswer head = record {
-  status = numberAt head 12;
-  refusal = numberAt head 13;
-  attached = numberAt head 14;
-  hazards = numberAt head 15;
-  next = numberAt head 16;
-  hazard = recordedHazard head 17 ∷ recordedHazard head 20 ∷ [];
+  status = numberAt head 13;
+  refusal = numberAt head 14;
+  attached = numberAt head 15;
+  hazards = numberAt head 16;
+  next = numberAt head 17;
+  hazard = recordedHazard head 18 ∷ recordedHazard head 21 ∷ [];
 }
 
--- the answer of starting or finishing is the number r: status 0 where done, else 3, and r as the number of the refusal
+-- the answer of starting, finishing or a move is the number r: status 0 where done, else 3, and r as the number of the refusal
 pub record RecordedDone (head : List ℕ) (r : ℕ) : Type 0 where
-  pub status : numberAt head 12 ≡ (if eqb r 0 then 0 else 3)
-  pub refusal : numberAt head 13 ≡ r
+  pub status : numberAt head 13 ≡ (if eqb r 0 then 0 else 3)
+  pub refusal : numberAt head 14 ≡ r

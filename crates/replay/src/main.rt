@@ -1,7 +1,8 @@
-// Replays calls whose answers the Rust gave: the file stdin has them, and oracle/README.md says how it was made. Every number and every byte is compared.
+// Replays recorded calls, whose answers the Rust gave, and moves, which the oracle checked: the file stdin has them, and oracle/README.md says how it was made. Every number and every byte is compared.
 mod calls; // makes a call
 mod recorded; // what was recorded of it
 
+use calls::has_target;
 use calls::is_replay;
 use libc::STDIN_FILENO;
 use recorded::place;
@@ -14,7 +15,7 @@ fn is_read(buf: &mut [u8]) -> bool {
 }
 
 // Reads the line, the subtable and the line afterwards, makes the call and compares.
-fn is_replayed(head: &[u8; 92], line: &mut [u8], subtable: &mut [u8], after: &mut [u8]) -> bool {
+fn is_replayed(head: &[u8; 96], line: &mut [u8], subtable: &mut [u8], after: &mut [u8]) -> bool {
     if !is_read(line) {
         return false;
     }
@@ -27,25 +28,34 @@ fn is_replayed(head: &[u8; 92], line: &mut [u8], subtable: &mut [u8], after: &mu
     is_replay(head, line, subtable, after)
 }
 
+// How many bytes are recorded afterwards: as many as the target has, else as the line.
+fn after_length(head: &[u8; 96]) -> usize {
+    if has_target(head) {
+        return place(head, 12);
+    }
+    place(head, 11)
+}
+
 // The same with room for each, of which so much is used as the call says.
-fn is_replayed_in(head: &[u8; 92], line: &mut [u8], subtable: &mut [u8], after: &mut [u8]) -> bool {
-    let n = place(head, 10);
-    let m = place(head, 11);
+fn is_replayed_in(head: &[u8; 96], line: &mut [u8], subtable: &mut [u8], after: &mut [u8]) -> bool {
+    let n = place(head, 11);
+    let m = place(head, 12);
+    let k = after_length(head);
     if line.len() < n {
         return false;
     }
     if subtable.len() < m {
         return false;
     }
-    if after.len() < n {
+    if after.len() < k {
         return false;
     }
-    is_replayed(head, &mut line[..n], &mut subtable[..m], &mut after[..n])
+    is_replayed(head, &mut line[..n], &mut subtable[..m], &mut after[..k])
 }
 
 // Replays the next call of the list.
 fn is_next_replayed() -> bool {
-    let mut head = [0u8; 92];
+    let mut head = [0u8; 96];
     let numbers: &mut [u8] = &mut head;
     if !is_read(numbers) {
         return false;

@@ -18,37 +18,37 @@ pub fn unsigned(s: &[u8], at: usize) -> u32
     ints::big_endian::read_i32(s, at)
 }
 
-// A call's numbers and its answer's, 23 of four bytes each: kind, direction, s, u, limit, attachments, missing, lookup flag, index, neighbour, the lengths of
-// line and subtable; status, refusal, attached, hazards, next, and two hazards of kind, start and end.
-pub fn number(head: &[u8; 92], k: usize) -> u32
-    requires { ⌜ k < 23 ⌝ }
+// A call's numbers and its answer's, 24 of four bytes each: kind, direction, s, u, limit, attachments, missing, lookup flag, slot size, index, neighbour, the
+// lengths of line and subtable; status, refusal, attached, hazards, next, and two hazards of kind, start and end.
+pub fn number(head: &[u8; 96], k: usize) -> u32
+    requires { ⌜ k < 24 ⌝ }
     ensures { λ r. ⌜ r ≡ numberAt (now (head .entry)) k ⌝ }
 {
     unsigned(head, k * 4)
 }
 
-pub fn place(head: &[u8; 92], k: usize) -> usize
-    requires { ⌜ k < 23 ⌝ }
+pub fn place(head: &[u8; 96], k: usize) -> usize
+    requires { ⌜ k < 24 ⌝ }
     ensures { λ r. ⌜ r ≡ numberAt (now (head .entry)) k ⌝ }
 {
     number(head, k) as usize
 }
 
-// Whether `given`, what starting or finishing answered, is what was recorded.
-pub fn is_done(head: &[u8; 92], given: u32) -> bool
+// Whether `given`, what starting, finishing or a move answered, is what was recorded.
+pub fn is_done(head: &[u8; 96], given: u32) -> bool
     ensures { λ r. ⌜ r ≡ true ↔ RecordedDone (now (head .entry)) given ⌝ }
 {
-    if number(head, 13) != given {
+    if number(head, 14) != given {
         return false;
     }
     if given == 0 {
-        return number(head, 12) == 0;
+        return number(head, 13) == 0;
     }
-    number(head, 12) == 3
+    number(head, 13) == 3
 }
 
-fn is_hazard(head: &[u8; 92], k: usize, h: CHazard) -> bool
-    requires { ⌜ k ≤ 20 ⌝ }
+fn is_hazard(head: &[u8; 96], k: usize, h: CHazard) -> bool
+    requires { ⌜ k ≤ 21 ⌝ }
     ensures { λ r. ⌜ r ≡ true ↔ h ≡ recordedHazard (now (head .entry)) k ⌝ }
 {
     if number(head, k) != h.kind {
@@ -61,31 +61,31 @@ fn is_hazard(head: &[u8; 92], k: usize, h: CHazard) -> bool
 }
 
 // Whether a, what an applying call answered, is what was recorded.
-pub fn is_answer(head: &[u8; 92], a: CAnswer) -> bool
+pub fn is_answer(head: &[u8; 96], a: CAnswer) -> bool
     ensures { λ r. ⌜ r ≡ true ↔ a ≡ recordedAnswer (now (head .entry)) ⌝ }
 {
-    if number(head, 12) != a.status {
+    if number(head, 13) != a.status {
         return false;
     }
-    if number(head, 13) != a.refusal {
+    if number(head, 14) != a.refusal {
         return false;
     }
-    if number(head, 14) != a.attached {
+    if number(head, 15) != a.attached {
         return false;
     }
-    if number(head, 15) != a.hazards {
+    if number(head, 16) != a.hazards {
         return false;
     }
-    if place(head, 16) != a.next {
+    if place(head, 17) != a.next {
         return false;
     }
     let hazards = a.hazard;
     let first = hazards[0];
     let second = hazards[1];
-    if !is_hazard(head, 17, first) {
+    if !is_hazard(head, 18, first) {
         return false;
     }
-    is_hazard(head, 20, second)
+    is_hazard(head, 21, second)
 }
 
 // Whether the two have the same bytes.

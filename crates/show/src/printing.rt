@@ -7,8 +7,9 @@ use answers::Done;
 use answers::Refusal;
 use ints::big_endian::Signed;
 use libc::STDOUT_FILENO;
+use slots::shape::Shape;
 ghost use Prim.Native.Nat.{_<_};
-ghost use Rattle.slots.specs.Line.{count};
+ghost use Rattle.slots.specs.Line.{Inside};
 
 pub fn text(s: &[u8]) {
     io::write_all(STDOUT_FILENO, s);
@@ -26,11 +27,11 @@ pub fn integer(v: Signed) {
 }
 
 // A slot's number, advances and offsets, as a line.
-pub fn slot(line: &[u8], i: usize)
-    requires { ⌜ (i < count (now line)) × (i < 2147483648) ⌝ }
+pub fn slot(line: &[u8], shape: Shape, i: usize)
+    requires { ⌜ Inside shape (now line) i × (i < 2147483648) ⌝ }
 {
     let mut space = [0u8; MOST_ROW];
-    let n = row(line, i, &mut space);
+    let n = row(line, shape, i, &mut space);
     text(&space[..n]);
 }
 

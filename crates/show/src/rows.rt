@@ -4,10 +4,11 @@ use ints::big_endian::Signed;
 use slots::axis::Axis;
 use slots::fields::Measure;
 use slots::fields::get;
+use slots::shape::Shape;
 ghost use Prim.Native.Nat.{_+_, _≤_, _<_};
 ghost use lib.ListN.{length, take};
 ghost use Rattle.ints.specs.Signed.{val};
-ghost use Rattle.slots.specs.Line.{count, slot, slots};
+ghost use Rattle.slots.specs.Line.{Inside, slot, slots};
 ghost use Rattle.show.specs.Text.{Grown, Row};
 
 // Five numbers, each with a byte after it.
@@ -28,13 +29,17 @@ fn put(v: Signed, after: u8, out: &mut [u8], at: usize) -> usize
 }
 
 // Puts slot i's line of text at the start of out, and answers how many bytes it has.
-pub fn row(line: &[u8], i: usize, out: &mut [u8]) -> usize
-    requires { ⌜ (i < count (now line)) × (i < 2147483648) × (60 ≤ length (now out)) ⌝ }
-    ensures { λ r. ⌜ (r ≤ 60) × Row i (slot (slots (now (line .entry))) i) (take r (now (out .exit))) ⌝ }
+pub fn row(line: &[u8], shape: Shape, i: usize, out: &mut [u8]) -> usize
+    requires { ⌜ Inside shape (now line) i × (i < 2147483648) × (60 ≤ length (now out)) ⌝ }
+    ensures { λ r. ⌜ (r ≤ 60) × Row i (slot (slots shape (now (line .entry))) i) (take r (now (out .exit))) ⌝ }
 {
+    let x = get(line, shape, i, Measure::Advance, Axis::X);
+    let y = get(line, shape, i, Measure::Advance, Axis::Y);
+    let to_x = get(line, shape, i, Measure::Offset, Axis::X);
+    let to_y = get(line, shape, i, Measure::Offset, Axis::Y);
     let a = put(i as u32, SPACE, out, 0);
-    let b = put(get(line, i, Measure::Advance, Axis::X), SPACE, out, a);
-    let c = put(get(line, i, Measure::Advance, Axis::Y), SPACE, out, b);
-    let d = put(get(line, i, Measure::Offset, Axis::X), SPACE, out, c);
-    put(get(line, i, Measure::Offset, Axis::Y), LINE_END, out, d)
+    let b = put(x, SPACE, out, a);
+    let c = put(y, SPACE, out, b);
+    let d = put(to_x, SPACE, out, c);
+    put(to_y, LINE_END, out, d)
 }

@@ -1,17 +1,18 @@
 -- Worked values by hand from document 01: a slot's bytes, the ranges of its fields, the line's length, parents, starting. They compute. Assumes nothing.
 use mathlib.Core.Bool.{Bool, true, false}
-use mathlib.Core.List.{List, [], _∷_, map}
+use mathlib.Core.List.{List, [], _∷_, _++_, map}
 use mathlib.Core.Path.{_≡_, refl}
 use Prim.Native.Nat.{ℕ, zero, suc}
 use lib.IntN.{ℤ, pos}
 use Rattle.ints.specs.BigEndian.{digits, natAt}
 use Rattle.ints.specs.Saturating.{minus}
 use Rattle.ints.specs.Signed.{intAt, pattern, signed}
-use Rattle.slots.specs.Checks.{misshapen, outOfRange, some, unranged}
-use Rattle.slots.specs.Fields.{attached, flagIn, withByte}
-use Rattle.slots.specs.Line.{bytes, slots, slotsN}
+use Rattle.slots.specs.Checks.{misshapen, outOfRange, some, uneven, unranged}
+use Rattle.slots.specs.Clusters.{clusters, isNumberedFrom, numberedFrom, plainLine, plainN}
+use Rattle.slots.specs.Fields.{attached, flagIn, withByte, withCluster}
+use Rattle.slots.specs.Line.{bytes, lineSlots, slots, slotsN}
 use Rattle.slots.specs.Parent.{parent}
-use Rattle.slots.specs.Slot.{bytesOf, noSlot, Slot, slotOf}
+use Rattle.slots.specs.Slot.{bytesOf, noSlot, plainBytes, Slot, slotOf}
 use Rattle.slots.specs.Start.{started}
 use Rattle.slots.specs.declared.fields.ByteField.{ByteField}
 use Rattle.slots.specs.declared.fields.ByteField.the-variants.{LigatureId, Component, Flags, AttachType}
@@ -41,7 +42,15 @@ fullSlot t c =
       yAdvance = minus 2147483648;
       xOffset = minus 1;
       yOffset = pos 256;
+      cluster = 0;
     }
+
+-- with the cluster 0x00010203 after them, as a slot too
+abbrev clustered : List ℕ
+clustered = full ++ (0 ∷ 1 ∷ 2 ∷ 3 ∷ [])
+
+abbrev clusteredSlot : Slot
+clusteredSlot = withCluster 66051 (fullSlot 255 (minus 32768))
 
 -- n zero bytes
 abbrev zeros : ℕ → List ℕ
@@ -58,31 +67,48 @@ parentAt c = parent (noSlot ∷ attached 2 c noSlot ∷ noSlot ∷ []) 1
 
 pub record Worked : Type 0 where
   -- the table of fields, both ways
-  pub fields : (slotOf full ≡ fullSlot 255 (minus 32768)) × (bytesOf (fullSlot 255 (minus 32768)) ≡ full)
+  pub fields : (slotOf full ≡ fullSlot 255 (minus 32768)) × (bytesOf 24 (fullSlot 255 (minus 32768)) ≡ full)
+  -- with a cluster, both ways
+  pub clusters-are : (slotOf clustered ≡ clusteredSlot) × (bytesOf 28 clusteredSlot ≡ clustered) × (bytesOf 24 clusteredSlot ≡ full)
   -- bit 0 seen, bit 1 mark, bit 2 multiplied
   pub flags-are : (map (flagIn Seen) (1 ∷ 6 ∷ []) ≡ (true ∷ false ∷ [])) × (map (flagIn Mark) (2 ∷ 5 ∷ []) ≡ (true ∷ false ∷ []))
       × (map (flagIn Multiplied) (4 ∷ 3 ∷ []) ≡ (true ∷ false ∷ []))
   -- refusal 1: an empty line is whole; so is one slot, one byte more or less is not
-  pub lengths : map (λ (n : ℕ). misshapen (zeros n)) (0 ∷ 23 ∷ 24 ∷ 25 ∷ 48 ∷ []) ≡ (false ∷ true ∷ false ∷ true ∷ false ∷ [])
+  pub lengths : map (λ (n : ℕ). misshapen 24 (zeros n)) (0 ∷ 23 ∷ 24 ∷ 25 ∷ 48 ∷ []) ≡ (false ∷ true ∷ false ∷ true ∷ false ∷ [])
+  pub lengths-clustered : map (λ (n : ℕ). misshapen 28 (zeros n)) (0 ∷ 27 ∷ 28 ∷ 29 ∷ 56 ∷ []) ≡ (false ∷ true ∷ false ∷ true ∷ false ∷ [])
+  -- 168 bytes may be slots of either size, which the caller names; no other size has a line, not even an empty one
+  pub sizes : map (λ (z : ℕ). misshapen z (zeros 168)) (24 ∷ 28 ∷ 12 ∷ 56 ∷ []) ≡ (false ∷ false ∷ true ∷ true ∷ []) × map (λ (z : ℕ). misshapen z []) (0 ∷ 26 ∷ []) ≡ (true ∷ true ∷ [])
+  -- 1,024 slots are the most: 24,576 bytes, and 28,672 with clusters
+  pub longest : (map (uneven 24) (24576 ∷ 24600 ∷ []) ≡ (false ∷ true ∷ [])) × (map (uneven 28) (24584 ∷ 28672 ∷ 28700 ∷ []) ≡ (false ∷ false ∷ true ∷ []))
   -- refusal 4: id 7, component 15, flags 7 are in range, one more is not; any type is
   pub ranges : (map (out LigatureId) (7 ∷ 8 ∷ []) ≡ (false ∷ true ∷ [])) × (map (out Component) (15 ∷ 16 ∷ []) ≡ (false ∷ true ∷ []))
       × (map (out Flags) (7 ∷ 8 ∷ []) ≡ (false ∷ true ∷ [])) × (map (out AttachType) (0 ∷ 3 ∷ 255 ∷ []) ≡ (false ∷ false ∷ false ∷ []))
   -- it looks at every slot, the last too
-  pub last-slot : unranged (bytes (noSlot ∷ withByte Flags 8 noSlot ∷ [])) ≡ true
+  pub last-slot : unranged (noSlot ∷ withByte Flags 8 noSlot ∷ []) ≡ true
   -- chain 0 is not attached; a parent is in the line from slot 0 to the last, and else outside, however far
   pub parents : map parentAt (pos 0 ∷ minus 1 ∷ pos 1 ∷ minus 2 ∷ pos 2 ∷ minus 32768 ∷ pos 32767 ∷ [])
       ≡ (None ∷ At 0 ∷ At 2 ∷ Outside ∷ Outside ∷ Outside ∷ Outside ∷ [])
+  -- moving gives each slot its number; the old bytes of a line with clusters are its first 24 of each 28
+  pub numbers : (clusters (numberedFrom 0 (clusteredSlot ∷ noSlot ∷ noSlot ∷ [])) ≡ (0 ∷ 1 ∷ 2 ∷ [])) × (plainLine (clustered ++ clustered) ≡ full ++ full)
+  pub numbered : map (isNumberedFrom 0) ((noSlot ∷ withCluster 1 noSlot ∷ []) ∷ (noSlot ∷ noSlot ∷ []) ∷ (clusteredSlot ∷ []) ∷ [] ∷ []) ≡ (true ∷ false ∷ false ∷ true ∷ [])
   -- starting clears chain and type, and nothing else; an empty line stays empty
-  pub starts : (started (slots full) ≡ fullSlot 0 (pos 0) ∷ []) × (started (slots []) ≡ [])
+  pub starts : (started (lineSlots 24 full) ≡ fullSlot 0 (pos 0) ∷ []) × (started (lineSlots 24 []) ≡ [])
+      × (started (lineSlots 28 clustered) ≡ withCluster 66051 (fullSlot 0 (pos 0)) ∷ [])
 
 pub worked : Worked
-unfolding digits natAt pattern signed intAt slotOf bytesOf slotsN slots bytes some parent
+unfolding digits natAt pattern signed intAt slotOf plainBytes slotsN slots bytes some parent numberedFrom isNumberedFrom plainN
 worked = record {
   fields = (refl, refl);
+  clusters-are = (refl, refl, refl);
   flags-are = (refl, refl, refl);
   lengths = refl;
+  lengths-clustered = refl;
+  sizes = (refl, refl);
+  longest = (refl, refl);
   ranges = (refl, refl, refl, refl);
   last-slot = refl;
   parents = refl;
-  starts = (refl, refl);
+  numbers = (refl, refl);
+  numbered = refl;
+  starts = (refl, refl, refl);
 }

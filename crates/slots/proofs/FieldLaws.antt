@@ -1,7 +1,7 @@
 -- A write to a slot's bytes is a change of one field: one law for the four fields of one byte, one for the four measures. Assumes nothing.
 use mathlib.Core.Path.{_≡_, refl}
 use mathlib.Core.List.{List, []}
-use Prim.Native.Nat.{ℕ, _<_}
+use Prim.Native.Nat.{ℕ, _<_, _≤_}
 use native.Mathlib.Omega.{arith}
 use lib.IntN.{ℤ, pos}
 use lib.ListN.{length, getD, set}
@@ -36,28 +36,28 @@ measure-get Offset X q = refl
 measure-get Offset Y q = refl
 
 -- ---- writing
-pub byte-put : (f : ByteField) (n : ℕ) (q : List ℕ) → length q ≡ slotSize → slotOf (set q (byteAt f) n) ≡ withByte f n (slotOf q)
+pub byte-put : (f : ByteField) (n : ℕ) (q : List ℕ) → slotSize ≤ length q → slotOf (set q (byteAt f) n) ≡ withByte f n (slotOf q)
 unfolding slotOf natAt intAt
-byte-put LigatureId n = by-cells (λ (q : List ℕ). slotOf (set q 2 n) ≡ withByte LigatureId n (slotOf q)) (λ g. refl)
-byte-put Component n = by-cells (λ (q : List ℕ). slotOf (set q 3 n) ≡ withByte Component n (slotOf q)) (λ g. refl)
-byte-put Flags n = by-cells (λ (q : List ℕ). slotOf (set q 4 n) ≡ withByte Flags n (slotOf q)) (λ g. refl)
-byte-put AttachType n = by-cells (λ (q : List ℕ). slotOf (set q 5 n) ≡ withByte AttachType n (slotOf q)) (λ g. refl)
+byte-put LigatureId n = by-cells (λ (q : List ℕ). slotOf (set q 2 n) ≡ withByte LigatureId n (slotOf q)) (λ g r. refl)
+byte-put Component n = by-cells (λ (q : List ℕ). slotOf (set q 3 n) ≡ withByte Component n (slotOf q)) (λ g r. refl)
+byte-put Flags n = by-cells (λ (q : List ℕ). slotOf (set q 4 n) ≡ withByte Flags n (slotOf q)) (λ g r. refl)
+byte-put AttachType n = by-cells (λ (q : List ℕ). slotOf (set q 5 n) ≡ withByte AttachType n (slotOf q)) (λ g r. refl)
 
-pub glyph-put : (n : ℕ) → n < 65536 → (q : List ℕ) → length q ≡ slotSize → slotOf (withNat 2 q 0 n) ≡ withGlyph n (slotOf q)
+pub glyph-put : (n : ℕ) → n < 65536 → (q : List ℕ) → slotSize ≤ length q → slotOf (withNat 2 q 0 n) ≡ withGlyph n (slotOf q)
 unfolding slotOf natAt intAt withNat digits
-glyph-put n h = by-cells (λ (q : List ℕ). slotOf (withNat 2 q 0 n) ≡ withGlyph n (slotOf q)) (λ g. rw (natAt-digits 2 n h []))
+glyph-put n h = by-cells (λ (q : List ℕ). slotOf (withNat 2 q 0 n) ≡ withGlyph n (slotOf q)) (λ g r. rw (natAt-digits 2 n h []))
 
-pub chain-put : (z : ℤ) → InBytes 2 z → (q : List ℕ) → length q ≡ slotSize → slotOf (withInt 2 q 6 z) ≡ withChain z (slotOf q)
+pub chain-put : (z : ℤ) → InBytes 2 z → (q : List ℕ) → slotSize ≤ length q → slotOf (withInt 2 q 6 z) ≡ withChain z (slotOf q)
 unfolding slotOf natAt intAt withNat withInt digits
-chain-put z h = by-cells (λ (q : List ℕ). slotOf (withInt 2 q 6 z) ≡ withChain z (slotOf q)) (λ g. rw (intAt-digits 2 z (omega arith) h []))
+chain-put z h = by-cells (λ (q : List ℕ). slotOf (withInt 2 q 6 z) ≡ withChain z (slotOf q)) (λ g r. rw (intAt-digits 2 z (omega arith) h []))
 
 module _ (z : ℤ) (h : InBytes 4 z) where
-  pub measure-put : (m : Measure) (a : Axis) (q : List ℕ) → length q ≡ slotSize → slotOf (withInt 4 q (measureAt m a) z) ≡ withMeasure m a z (slotOf q)
+  pub measure-put : (m : Measure) (a : Axis) (q : List ℕ) → slotSize ≤ length q → slotOf (withInt 4 q (measureAt m a) z) ≡ withMeasure m a z (slotOf q)
   unfolding slotOf natAt intAt withNat withInt digits
-  measure-put Advance X = by-cells (λ (q : List ℕ). slotOf (withInt 4 q 8 z) ≡ withMeasure Advance X z (slotOf q)) (λ g. rw (intAt-digits 4 z (omega arith) h []))
-  measure-put Advance Y = by-cells (λ (q : List ℕ). slotOf (withInt 4 q 12 z) ≡ withMeasure Advance Y z (slotOf q)) (λ g. rw (intAt-digits 4 z (omega arith) h []))
-  measure-put Offset X = by-cells (λ (q : List ℕ). slotOf (withInt 4 q 16 z) ≡ withMeasure Offset X z (slotOf q)) (λ g. rw (intAt-digits 4 z (omega arith) h []))
-  measure-put Offset Y = by-cells (λ (q : List ℕ). slotOf (withInt 4 q 20 z) ≡ withMeasure Offset Y z (slotOf q)) (λ g. rw (intAt-digits 4 z (omega arith) h []))
+  measure-put Advance X = by-cells (λ (q : List ℕ). slotOf (withInt 4 q 8 z) ≡ withMeasure Advance X z (slotOf q)) (λ g r. rw (intAt-digits 4 z (omega arith) h []))
+  measure-put Advance Y = by-cells (λ (q : List ℕ). slotOf (withInt 4 q 12 z) ≡ withMeasure Advance Y z (slotOf q)) (λ g r. rw (intAt-digits 4 z (omega arith) h []))
+  measure-put Offset X = by-cells (λ (q : List ℕ). slotOf (withInt 4 q 16 z) ≡ withMeasure Offset X z (slotOf q)) (λ g r. rw (intAt-digits 4 z (omega arith) h []))
+  measure-put Offset Y = by-cells (λ (q : List ℕ). slotOf (withInt 4 q 20 z) ≡ withMeasure Offset Y z (slotOf q)) (λ g r. rw (intAt-digits 4 z (omega arith) h []))
 
 -- ---- the slot with chain 0, all else as it was
 abbrev pub free : Slot → Slot
@@ -71,6 +71,6 @@ measure-chain Offset X c s = refl
 measure-chain Offset Y c s = refl
 
 -- ---- type and chain set to 0
-pub clear-put : (p : List ℕ) → length p ≡ slotSize → slotOf (set (set (set p 5 0) 6 0) 7 0) ≡ unattached (slotOf p)
+pub clear-put : (p : List ℕ) → slotSize ≤ length p → slotOf (set (set (set p 5 0) 6 0) 7 0) ≡ unattached (slotOf p)
 unfolding slotOf natAt intAt signed
-clear-put = by-cells (λ (p : List ℕ). slotOf (set (set (set p 5 0) 6 0) 7 0) ≡ unattached (slotOf p)) (λ g. refl)
+clear-put = by-cells (λ (p : List ℕ). slotOf (set (set (set p 5 0) 6 0) 7 0) ≡ unattached (slotOf p)) (λ g r. refl)

@@ -1,151 +1,217 @@
 -- Laws of the line: its bytes and its slots, a slot lent and put back, a part of whole slots. Assumes nothing.
 use mathlib.Core.Path.{_≡_, refl, sym, ap, _∙_}
+use mathlib.Core.Bool.{true, false, not}
 use mathlib.Core.List.{List, [], _∷_, _++_, append-assoc}
 use Prim.Native.Nat.{ℕ, zero, suc, _+_, _-_, _*_, _/_, _%_, _<_, _≤_}
 use native.Mathlib.Omega.{arith}
+use native.Mathlib.Nat.{add-mul, div-add-mod', mul-div-cancel, mul-le-mul-left, mul-le-mul-right, suc-mul, zero-mul}
+use lib.Dec.{eqb, ltb}
 use lib.ListN.{length, getD, set, take, drop, length-append, length-drop, length-set, take-append-drop}
 use lib.Seq.{take-at, drop-at, drop-drop, take-add, length-take-le, getD-set-other, getD-set-same, set-getD, set-set, slice, take-nil}
-use borrow.Rule.Slice.PartMut.{midOf, putMid, same-len-mid}
+use borrow.Author.Tests.{eqb-true, ltb-false, not-false}
+use borrow.Rule.Slice.PartMut.{midOf, putMid}
 use Rattle.ints.specs.BigEndian.{Bytes}
 use Rattle.ints.proofs.BigEndianLaws.{bytes-drop, bytes-take}
-use Rattle.slots.specs.Slot.{Slot, bytesOf, noSlot, slotOf, slotSize}
-use Rattle.slots.specs.Line.{AllStorable, bytes, count, slot, slots, slotsN, update}
-use Rattle.slots.proofs.SlotLaws.{bytesOf-slotOf, length-bytesOf, slotOf-bytesOf, slotOf-storable}
+use Rattle.ints.proofs.TestLaws.{or-false}
+use Rattle.slots.specs.Slot.{Slot, bytesOf, known, noSlot, slotOf, slotSize}
+use Rattle.slots.specs.Line.{AllStorable, bytes, count, Fits, Inside, lineSlots, partShape, shapeOf, shapeWith, slot, slots, slotsN, update}
+use Rattle.slots.specs.Checks.{misshapen, mostSlots, uneven}
+use Rattle.slots.specs.declared.shape.Shape.{Shape}
+use Rattle.slots.proofs.SlotLaws.{bytesOf-slotOf, length-bytesOf, size-wide, slotOf-bytesOf, slotOf-storable}
 
--- ---- slots one by one
-pub length-slotsN : (n : ℕ) (l : List ℕ) → length (slotsN n l) ≡ n
-unfolding slotsN
-length-slotsN zero l = refl
-length-slotsN (suc n) l = ap suc (length-slotsN n (drop 24 l))
+length-take-most : (n : ℕ) (l : List ℕ) → length (take n l) ≤ n
+length-take-most zero l = omega arith
+length-take-most (suc n) [] = omega arith
+length-take-most (suc n) (x ∷ l) = omega (arith, length-take-most n l)
 
-pub length-slots : (l : List ℕ) → length (slots l) ≡ count l
+-- ---- slots one by one, of z bytes each
+module _ (z : ℕ) where
+  length-slotsN : (n : ℕ) (l : List ℕ) → length (slotsN z n l) ≡ n
+  unfolding slotsN
+  length-slotsN zero l = refl
+  length-slotsN (suc n) l = ap suc (length-slotsN n (drop z l))
+
+  -- skipping, and keeping, one slot more
+  skip : (i : ℕ) (l : List ℕ) → drop (suc i * z) l ≡ drop (i * z) (drop z l)
+  skip i l =
+      let e : suc i * z ≡ z + i * z = omega (arith, suc-mul i z) in
+      ap (λ (k : ℕ). drop k l) e ∙ sym (drop-drop (i * z) z l)
+
+  keep : (i : ℕ) (l : List ℕ) → take (suc i * z) l ≡ take z l ++ take (i * z) (drop z l)
+  keep i l =
+      let e : suc i * z ≡ z + i * z = omega (arith, suc-mul i z) in
+      ap (λ (k : ℕ). take k l) e ∙ take-add z (i * z) l
+
+  -- the bytes of slot i, and the line with other bytes for slot i
+  abbrev partOf : List ℕ → ℕ → List ℕ
+  partOf l i = take z (drop (i * z) l)
+
+  abbrev withPart : List ℕ → ℕ → List ℕ → List ℕ
+  withPart l i q = take (i * z) l ++ (q ++ drop z (drop (i * z) l))
+
+  length-part : (l : List ℕ) (i : ℕ) → i * z + z ≤ length l → length (partOf l i) ≡ z
+  length-part l i h = length-take-le z (drop (i * z) l) (simp length-drop (omega arith))
+
+  getD-slotsN : (n i : ℕ) (l : List ℕ) (d : Slot) → i < n → getD (slotsN z n l) i d ≡ slotOf (partOf l i)
+  unfolding slotsN
+  getD-slotsN zero i l d h = absurd (omega arith)
+  getD-slotsN (suc n) zero l d h = rw zero-mul
+  getD-slotsN (suc n) (suc i) l d h =
+      let k : i < n = omega arith in
+      getD-slotsN n i (drop z l) d k ∙ ap (λ (p : List ℕ). slotOf (take z p)) (sym (skip i l))
+
+  with-part-suc : (l q : List ℕ) (i : ℕ) → withPart l (suc i) q ≡ take z l ++ withPart (drop z l) i q
+  with-part-suc l q i = rw (keep i l, skip i l) (simp append-assoc)
+
+  put-slotsN : (n i : ℕ) (l q : List ℕ) → i < n → n * z ≤ length l → length q ≡ z → slotsN z n (withPart l i q) ≡ set (slotsN z n l) i (slotOf q)
+  unfolding slotsN
+  put-slotsN zero i l q h w e = absurd (omega arith)
+  put-slotsN (suc n) zero l q h w e = rw (zero-mul, take-at q (drop z l) z e, drop-at q (drop z l) z e)
+  put-slotsN (suc n) (suc i) l q h w e =
+      let more = suc-mul n z in
+      let a : length (take z l) ≡ z = length-take-le z l (omega arith) in
+      let k : n * z ≤ length (drop z l) = simp length-drop (omega arith) in
+      rw (with-part-suc l q i, take-at (take z l) _ z a, drop-at (take z l) _ z a)
+      (ap (λ (ss : List Slot). slotOf (take z l) ∷ ss) (put-slotsN n i (drop z l) q (omega arith) k e))
+
+  slotsN-drop : (j n : ℕ) (l : List ℕ) → slotsN z n (drop (j * z) l) ≡ drop j (slotsN z (j + n) l)
+  unfolding slotsN
+  slotsN-drop zero n l = let e : 0 + n ≡ n = omega arith in let o : 0 * z ≡ 0 = omega arith in rw (e, o)
+  slotsN-drop (suc j) n l =
+      let e : suc j + n ≡ suc (j + n) = omega arith in
+      rw (e, skip j l) (slotsN-drop j n (drop z l))
+
+  slotsN-take : (m n : ℕ) (l : List ℕ) → m * z ≤ length l → slotsN z m (take (m * z) l) ≡ take m (slotsN z (m + n) l)
+  unfolding slotsN
+  slotsN-take zero n l h = refl
+  slotsN-take (suc m) n l h =
+      let more = suc-mul m z in
+      let e : suc m + n ≡ suc (m + n) = omega arith in
+      let a : length (take z l) ≡ z = length-take-le z l (omega arith) in
+      let k : m * z ≤ length (drop z l) = simp length-drop (omega arith) in
+      rw (e, keep m l, take-at (take z l) _ z a, drop-at (take z l) _ z a)
+      (ap (λ (ss : List Slot). slotOf (take z l) ∷ ss) (slotsN-take m n (drop z l) k))
+
+pub length-slots : (w : Shape) (l : List ℕ) → length (slots w l) ≡ w .count
 unfolding slots
-length-slots l = length-slotsN (count l) l
+length-slots w l = length-slotsN (w .size) (w .count) l
 
--- skipping, and keeping, one slot more
-skip : (i : ℕ) (l : List ℕ) → drop (suc i * 24) l ≡ drop (i * 24) (drop 24 l)
-skip i l =
-    let e : suc i * 24 ≡ 24 + i * 24 = omega arith in
-    ap (λ (k : ℕ). drop k l) e ∙ sym (drop-drop (i * 24) 24 l)
+-- ---- the shape of a line
+fits : (w : Shape) (l : List ℕ) → slotSize ≤ w .size → length l ≡ w .count * w .size → Fits w l
+fits w l h e = record { wide = h; whole = e; few = omega (arith, mul-le-mul-left (w .count) h) }
 
-keep : (i : ℕ) (l : List ℕ) → take (suc i * 24) l ≡ take 24 l ++ take (i * 24) (drop 24 l)
-keep i l =
-    let e : suc i * 24 ≡ 24 + i * 24 = omega arith in
-    ap (λ (k : ℕ). take k l) e ∙ take-add 24 (i * 24) l
+-- a line that isn't misshapen has slots of a known size, and its shape
+pub known-size : (z : ℕ) (l : List ℕ) → misshapen z l ≡ false → known z ≡ true
+known-size z l e = not-false (known z) (or-false (not (known z)) (uneven z (length l)) e .0)
 
--- the bytes of slot i, and the line with other bytes for slot i
-abbrev pub partOf : List ℕ → ℕ → List ℕ
-partOf l i = take 24 (drop (i * 24) l)
+pub shapely : (z : ℕ) (l : List ℕ) → misshapen z l ≡ false → Fits (shapeOf z l) l
+shapely z l e =
+    let even = eqb (length l % z) 0 in
+    let right : uneven z (length l) ≡ false = or-false (not (known z)) (uneven z (length l)) e .1 in
+    let none : length l % z ≡ 0 = eqb-true (length l % z) 0 (not-false even (or-false (not even) (ltb (mostSlots * z) (length l)) right .0)) in
+    fits (shapeOf z l) l (size-wide z (known-size z l e)) (omega (arith, div-add-mod' (length l) z))
 
-abbrev pub withPart : List ℕ → ℕ → List ℕ → List ℕ
-withPart l i q = take (i * 24) l ++ (q ++ drop 24 (drop (i * 24) l))
+-- and is no longer than the longest line
+pub line-short : (z : ℕ) (l : List ℕ) → misshapen z l ≡ false → length l ≤ mostSlots * z
+line-short z l e =
+    let right : uneven z (length l) ≡ false = or-false (not (known z)) (uneven z (length l)) e .1 in
+    ltb-false (mostSlots * z) (length l) (or-false (not (eqb (length l % z) 0)) (ltb (mostSlots * z) (length l)) right .1)
 
-length-part : (l : List ℕ) (i : ℕ) → i * 24 + 24 ≤ length l → length (partOf l i) ≡ 24
-length-part l i h = length-take-le 24 (drop (i * 24) l) (simp length-drop (omega arith))
+-- a line as long as another has its shape
+pub kept-shape : (z : ℕ) (l l′ : List ℕ) → length l′ ≡ length l → lineSlots z l′ ≡ slots (shapeOf z l) l′
+kept-shape z l l′ n = ap (λ (k : ℕ). slots (shapeWith z (k / z)) l′) n
 
-pub getD-slotsN : (n i : ℕ) (l : List ℕ) (d : Slot) → i < n → getD (slotsN n l) i d ≡ slotOf (partOf l i)
-unfolding slotsN
-getD-slotsN zero i l d h = absurd (omega arith)
-getD-slotsN (suc n) zero l d h = refl
-getD-slotsN (suc n) (suc i) l d h =
-    let k : i < n = omega arith in
-    getD-slotsN n i (drop 24 l) d k ∙ ap (λ (p : List ℕ). slotOf (take 24 p)) (sym (skip i l))
+-- ---- bytes to slots and back, of a size that slots may have
+module _ (z : ℕ) (k : known z ≡ true) where
+  bytes-slotsN : (n : ℕ) (l : List ℕ) → length l ≡ n * z → Bytes l → bytes z (slotsN z n l) ≡ l
+  unfolding bytes slotsN
+  bytes-slotsN zero [] e h = refl
+  bytes-slotsN zero (x ∷ l) e h = absurd (omega arith)
+  bytes-slotsN (suc n) l e h =
+      let more = suc-mul n z in
+      let a : length (take z l) ≡ z = length-take-le z l (omega arith) in
+      let d : length (drop z l) ≡ n * z = simp length-drop (omega arith) in
+      rw (bytesOf-slotOf z k (take z l) a (bytes-take z l h), bytes-slotsN n (drop z l) d (bytes-drop z l h)) (take-append-drop z l)
 
-with-part-suc : (l q : List ℕ) (i : ℕ) → withPart l (suc i) q ≡ take 24 l ++ withPart (drop 24 l) i q
-with-part-suc l q i = rw (keep i l, skip i l) (simp append-assoc)
+  -- a line of whole slots is the bytes of its slots
+  pub bytes-slots : (l : List ℕ) → Fits (shapeOf z l) l → Bytes l → bytes z (lineSlots z l) ≡ l
+  unfolding slots
+  bytes-slots l w h = bytes-slotsN (count z l) l (w .whole) h
 
-pub put-slotsN : (n i : ℕ) (l q : List ℕ) → i < n → n * 24 ≤ length l → length q ≡ 24 → slotsN n (withPart l i q) ≡ set (slotsN n l) i (slotOf q)
-unfolding slotsN
-put-slotsN zero i l q h w e = absurd (omega arith)
-put-slotsN (suc n) zero l q h w e = rw (take-at q (drop 24 l) 24 e, drop-at q (drop 24 l) 24 e)
-put-slotsN (suc n) (suc i) l q h w e =
-    let a : length (take 24 l) ≡ 24 = length-take-le 24 l (omega arith) in
-    let k : n * 24 ≤ length (drop 24 l) = simp length-drop (omega arith) in
-    rw (with-part-suc l q i, take-at (take 24 l) _ 24 a, drop-at (take 24 l) _ 24 a)
-    (ap (λ (ss : List Slot). slotOf (take 24 l) ∷ ss) (put-slotsN n i (drop 24 l) q (omega arith) k e))
+  -- what the slots of a whole line are decides its bytes
+  pub from-slots : (l : List ℕ) (ss : List Slot) → Fits (shapeOf z l) l → Bytes l → lineSlots z l ≡ ss → l ≡ bytes z ss
+  from-slots l ss e h s = sym (bytes-slots l e h) ∙ ap (bytes z) s
 
--- ---- bytes to slots and back
-bytes-slotsN : (n : ℕ) (l : List ℕ) → length l ≡ n * 24 → Bytes l → bytes (slotsN n l) ≡ l
-unfolding bytes slotsN
-bytes-slotsN zero [] e h = refl
-bytes-slotsN zero (x ∷ l) e h = absurd (omega arith)
-bytes-slotsN (suc n) l e h =
-    let a : length (take 24 l) ≡ 24 = length-take-le 24 l (omega arith) in
-    let k : length (drop 24 l) ≡ n * 24 = simp length-drop (omega arith) in
-    rw (bytesOf-slotOf (take 24 l) a (bytes-take 24 l h), bytes-slotsN n (drop 24 l) k (bytes-drop 24 l h)) (take-append-drop 24 l)
+  -- two whole lines of the same slots are the same bytes
+  pub same-slots : (m l : List ℕ) → Fits (shapeOf z m) m → Fits (shapeOf z l) l → Bytes m → Bytes l → lineSlots z m ≡ lineSlots z l → m ≡ l
+  same-slots m l e d g h s = from-slots m (lineSlots z l) e g s ∙ bytes-slots l d h
 
--- a line of whole slots is the bytes of its slots
-pub bytes-slots : (l : List ℕ) → length l % slotSize ≡ 0 → Bytes l → bytes (slots l) ≡ l
-unfolding slots
-bytes-slots l e h = bytes-slotsN (length l / 24) l (omega arith) h
+  pub length-bytes : (ss : List Slot) → length (bytes z ss) ≡ length ss * z
+  unfolding bytes
+  length-bytes [] = rw zero-mul
+  length-bytes (s ∷ ss) = rw (length-append (bytesOf z s) (bytes z ss), length-bytesOf z k s, length-bytes ss) (omega (arith, suc-mul (length ss) z))
 
--- what the slots of a whole line are decides its bytes
-pub from-slots : (l : List ℕ) (ss : List Slot) → length l % slotSize ≡ 0 → Bytes l → slots l ≡ ss → l ≡ bytes ss
-from-slots l ss e h s = sym (bytes-slots l e h) ∙ ap bytes s
+  slotsN-bytes : (ss : List Slot) → AllStorable z ss → slotsN z (length ss) (bytes z ss) ≡ ss
+  unfolding bytes slotsN AllStorable
+  slotsN-bytes [] h = refl
+  slotsN-bytes (s ∷ ss) h =
+      rw (take-at (bytesOf z s) (bytes z ss) z (length-bytesOf z k s), drop-at (bytesOf z s) (bytes z ss) z (length-bytesOf z k s), slotOf-bytesOf z k s (h .0), slotsN-bytes ss (h .1))
 
--- two whole lines of the same slots are the same bytes
-pub same-slots : (k l : List ℕ) → length k % slotSize ≡ 0 → length l % slotSize ≡ 0 → Bytes k → Bytes l → slots k ≡ slots l → k ≡ l
-same-slots k l e f g h s = from-slots k (slots l) e g s ∙ bytes-slots l f h
+  -- the bytes of n slots have room for n slots
+  pub count-bytes : (ss : List Slot) → count z (bytes z ss) ≡ length ss
+  count-bytes ss = rw (length-bytes ss) (mul-div-cancel (length ss) (omega (arith, size-wide z k)))
 
-pub length-bytes : (ss : List Slot) → length (bytes ss) ≡ length ss * slotSize
-unfolding bytes
-length-bytes [] = refl
-length-bytes (s ∷ ss) = rw (length-append (bytesOf s) (bytes ss), length-bytesOf s, length-bytes ss) (omega arith)
+  -- the slots of the bytes of slots are those slots, where each can be held
+  pub slots-bytes : (ss : List Slot) → AllStorable z ss → lineSlots z (bytes z ss) ≡ ss
+  unfolding slots
+  slots-bytes ss h = rw (count-bytes ss) (slotsN-bytes ss h)
 
-slotsN-bytes : (ss : List Slot) → AllStorable ss → slotsN (length ss) (bytes ss) ≡ ss
-unfolding bytes slotsN AllStorable
-slotsN-bytes [] h = refl
-slotsN-bytes (s ∷ ss) h =
-    rw (take-at (bytesOf s) (bytes ss) 24 (length-bytesOf s), drop-at (bytesOf s) (bytes ss) 24 (length-bytesOf s), slotOf-bytesOf s (h .0), slotsN-bytes ss (h .1))
+  storable-slotsN : (n : ℕ) (l : List ℕ) → Bytes l → AllStorable z (slotsN z n l)
+  unfolding slotsN AllStorable
+  storable-slotsN zero l h = tt
+  storable-slotsN (suc n) l h = (slotOf-storable z k (take z l) (length-take-most z l) (bytes-take z l h), storable-slotsN n (drop z l) (bytes-drop z l h))
 
--- the slots of the bytes of slots are those slots, where each can be held
-pub slots-bytes : (ss : List Slot) → AllStorable ss → slots (bytes ss) ≡ ss
-unfolding slots
-slots-bytes ss h =
-    let e : length (bytes ss) / 24 ≡ length ss = rw length-bytes (omega arith) in
-    rw e (slotsN-bytes ss h)
+  -- the slots of bytes can be held by bytes
+  pub slots-storable : (l : List ℕ) → Bytes l → AllStorable z (lineSlots z l)
+  unfolding slots
+  slots-storable l h = storable-slotsN (count z l) l h
 
-storable-slotsN : (n : ℕ) (l : List ℕ) → Bytes l → AllStorable (slotsN n l)
-unfolding slotsN AllStorable
-storable-slotsN zero l h = tt
-storable-slotsN (suc n) l h = (slotOf-storable (take 24 l) (bytes-take 24 l h), storable-slotsN n (drop 24 l) (bytes-drop 24 l h))
+-- ---- slot i's bytes, lent as code lends them: from i * z to i * z + z
+abbrev pub lentLength : ℕ → ℕ → ℕ
+lentLength z i = i * z + z - i * z
 
--- the slots of bytes can be held by bytes
-pub slots-storable : (l : List ℕ) → Bytes l → AllStorable (slots l)
-unfolding slots
-slots-storable l h = storable-slotsN (count l) l h
+abbrev pub lent : Shape → List ℕ → ℕ → List ℕ
+lent w l i = midOf (i * w .size) (lentLength (w .size) i) l
 
--- ---- slot i's bytes, lent as code lends them: from i * slotSize to i * slotSize + slotSize
-abbrev pub lentLength : ℕ → ℕ
-lentLength i = i * slotSize + slotSize - i * slotSize
+-- a slot of the line ends in it
+pub slot-end : (w : Shape) (l : List ℕ) (i : ℕ) → Inside w l i → i * w .size + w .size ≤ length l
+slot-end w l i h = omega (arith, suc-mul i (w .size), mul-le-mul-right (w .size) (h .below), h .fits .whole)
 
-abbrev pub lent : List ℕ → ℕ → List ℕ
-lent l i = midOf (i * slotSize) (lentLength i) l
-
-module _ (l : List ℕ) (i : ℕ) (h : i < count l) where
-  whole : lentLength i ≡ slotSize
+module _ (w : Shape) (l : List ℕ) (i : ℕ) (h : Inside w l i) where
+  whole : lentLength (w .size) i ≡ w .size
   whole = omega arith
 
-  pub lent-length : length (lent l i) ≡ slotSize
-  lent-length = rw whole (length-part l i (omega arith))
+  pub lent-size : length (lent w l i) ≡ w .size
+  lent-size = rw whole (length-part (w .size) l i (slot-end w l i h))
+
+  pub lent-length : slotSize ≤ length (lent w l i)
+  lent-length = omega (arith, lent-size, h .fits .wide)
 
   -- they are slot i
-  pub line-get : slotOf (lent l i) ≡ slot (slots l) i
+  pub line-get : slotOf (lent w l i) ≡ slot (slots w l) i
   unfolding slots
-  line-get = rw whole (sym (getD-slotsN (count l) i l noSlot h))
+  line-get = rw whole (sym (getD-slotsN (w .size) (w .count) i l noSlot (h .below)))
 
   -- and the line where q came back for them has q's slot in its place
-  line-put : (q : List ℕ) → length q ≡ length (lent l i) → slots (putMid (i * slotSize) (lentLength i) l q) ≡ set (slots l) i (slotOf q)
+  pub line-put : (q : List ℕ) → length q ≡ length (lent w l i) → slots w (putMid (i * w .size) (lentLength (w .size) i) l q) ≡ set (slots w l) i (slotOf q)
   unfolding slots
-  line-put q lq =
-      let ll : length (putMid (i * slotSize) (lentLength i) l q) ≡ length l = same-len-mid (i * slotSize) (lentLength i) l q lq in
-      rw (ll, whole) (put-slotsN (count l) i l q h (omega arith) (lq ∙ lent-length))
+  line-put q lq = rw whole (put-slotsN (w .size) (w .count) i l q (h .below) (omega (arith, h .fits .whole)) (lq ∙ lent-size))
 
   -- so a callee that changes the lent slot by f changes slot i of the line by f
-  pub line-update : (f : Slot → Slot) (q : List ℕ) → length q ≡ length (lent l i) → slotOf q ≡ f (slotOf (lent l i))
-      → slots (putMid (i * slotSize) (lentLength i) l q) ≡ update i f (slots l)
+  pub line-update : (f : Slot → Slot) (q : List ℕ) → length q ≡ length (lent w l i) → slotOf q ≡ f (slotOf (lent w l i))
+      → slots w (putMid (i * w .size) (lentLength (w .size) i) l q) ≡ update i f (slots w l)
   unfolding update
-  line-update f q lq sq = line-put q lq ∙ ap (λ (s : Slot). set (slots l) i s) (sq ∙ ap f line-get)
+  line-update f q lq sq = line-put q lq ∙ ap (λ (s : Slot). set (slots w l) i s) (sq ∙ ap f line-get)
 
 -- ---- one slot changed
 -- a change that leaves the slot leaves the line
@@ -181,42 +247,40 @@ module _ (i : ℕ) (f : Slot → Slot) (ss : List Slot) where
   update-as g e = ap (set ss i) e
 
 -- ---- a part of whole slots
-slotsN-drop : (j n : ℕ) (l : List ℕ) → slotsN n (drop (j * 24) l) ≡ drop j (slotsN (j + n) l)
-unfolding slotsN
-slotsN-drop zero n l = let e : 0 + n ≡ n = omega arith in rw e
-slotsN-drop (suc j) n l =
-    let e : suc j + n ≡ suc (j + n) = omega arith in
-    rw (e, skip j l) (slotsN-drop j n (drop 24 l))
-
-slotsN-take : (m n : ℕ) (l : List ℕ) → m * 24 ≤ length l → slotsN m (take (m * 24) l) ≡ take m (slotsN (m + n) l)
-unfolding slotsN
-slotsN-take zero n l h = refl
-slotsN-take (suc m) n l h =
-    let e : suc m + n ≡ suc (m + n) = omega arith in
-    let a : length (take 24 l) ≡ 24 = length-take-le 24 l (omega arith) in
-    let k : m * 24 ≤ length (drop 24 l) = simp length-drop (omega arith) in
-    rw (e, keep m l, take-at (take 24 l) _ 24 a, drop-at (take 24 l) _ 24 a)
-    (ap (λ (ss : List Slot). slotOf (take 24 l) ∷ ss) (slotsN-take m n (drop 24 l) k))
-
 drop-take : {A : Type 0} (j m : ℕ) (l : List A) → take m (drop j l) ≡ drop j (take (j + m) l)
 drop-take zero m l = let e : 0 + m ≡ m = omega arith in rw e
 drop-take (suc j) m [] = take-nil m ∙ sym (ap (drop (suc j)) (take-nil (suc j + m)))
 drop-take (suc j) m (x ∷ l) = let e : suc j + m ≡ suc (j + m) = omega arith in rw e (drop-take j m l)
 
 -- the part from slot i up to slot j, j not included, is those slots: k is its length in bytes, as the code computes it
-pub slots-part : (l : List ℕ) (i j k : ℕ) → i ≤ j → j ≤ count l → k ≡ j * slotSize - i * slotSize → slots (midOf (i * slotSize) k l) ≡ slice i j (slots l)
-unfolding slots
-slots-part l i j k h f e =
-    let m : ℕ = j - i in
-    let r : ℕ = count l - j in
-    let b : k ≡ m * 24 = omega arith in
-    let c : count l ≡ i + (m + r) = omega arith in
-    let d : i + m ≡ j = omega arith in
-    let w : m * 24 ≤ length (drop (i * 24) l) = simp length-drop (omega arith) in
-    let n : length (take (m * 24) (drop (i * 24) l)) / 24 ≡ m = rw (length-take-le (m * 24) (drop (i * 24) l) w) (omega arith) in
-    rw (b, n) (
-    slotsN-take m r (drop (i * 24) l) w
-    ∙ ap (take m) (slotsN-drop i (m + r) l ∙ ap (λ (n : ℕ). drop i (slotsN n l)) (sym c))
-    ∙ drop-take i m (slotsN (count l) l)
-    ∙ ap (λ (n : ℕ). drop i (take n (slotsN (count l) l))) d
-    )
+module _ (w : Shape) (l : List ℕ) (i j : ℕ) (f : Fits w l) (h : i ≤ j) (g : j ≤ w .count) where
+  -- its length in bytes, as code computes it
+  part-size : j * w .size - i * w .size ≡ (j - i) * w .size
+  part-size = let e : i + (j - i) ≡ j = omega arith in omega (arith, rw e at (add-mul i (j - i) (w .size)))
+
+  part-in : i * w .size + (j - i) * w .size ≤ length l
+  part-in = omega (arith, part-size, mul-le-mul-right (w .size) h, mul-le-mul-right (w .size) g, f .whole)
+
+  pub part-ends : (i * w .size ≤ j * w .size) × (j * w .size ≤ length l)
+  part-ends = (mul-le-mul-right (w .size) h, omega (arith, mul-le-mul-right (w .size) g, f .whole))
+
+  pub part-fits : Fits (partShape w (j - i)) (midOf (i * w .size) (j * w .size - i * w .size) l)
+  part-fits =
+      fits (partShape w (j - i)) (midOf (i * w .size) (j * w .size - i * w .size) l) (f .wide)
+      (rw part-size (length-take-le ((j - i) * w .size) (drop (i * w .size) l) (simp length-drop (omega (arith, part-in)))))
+
+  pub slots-part : slots (partShape w (j - i)) (midOf (i * w .size) (j * w .size - i * w .size) l) ≡ slice i j (slots w l)
+  unfolding slots
+  slots-part =
+      let z : ℕ = w .size in
+      let m : ℕ = j - i in
+      let r : ℕ = w .count - j in
+      let c : w .count ≡ i + (m + r) = omega arith in
+      let d : i + m ≡ j = omega arith in
+      let v : m * z ≤ length (drop (i * z) l) = simp length-drop (omega (arith, part-in)) in
+      rw part-size (
+      slotsN-take z m r (drop (i * z) l) v
+      ∙ ap (take m) (slotsN-drop z i (m + r) l ∙ ap (λ (n : ℕ). drop i (slotsN z n l)) (sym c))
+      ∙ drop-take i m (slotsN z (w .count) l)
+      ∙ ap (λ (n : ℕ). drop i (take n (slotsN z (w .count) l))) d
+      )

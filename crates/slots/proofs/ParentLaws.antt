@@ -124,24 +124,24 @@ module _ (l : List Slot) (i : ℕ) where
   unfolding cleared signed
   cleared-is e = e
 
--- ---- the parent as code finds it: c is the chain, raised by 2 ^ 31
-module _ (n i c : ℕ) (z : ℤ) (is : pos c -ℤ pos 2147483648 ≡ z) where
-  -- where that is: i + c - 2 ^ 31
-  sum : pos i +ℤ z ≡ diff (i + c) 2147483648
-  sum = ap (λ w. pos i +ℤ w) (sym is ∙ sub-pos c 2147483648) ∙ pos-add-diff c 2147483648 i
+-- ---- the parent as code finds it: c is the chain, raised by h
+module _ (h n i c : ℕ) (z : ℤ) (is : z ≡ pos c -ℤ pos h) where
+  -- where that is: i + c - h
+  sum : pos i +ℤ z ≡ diff (i + c) h
+  sum = ap (λ w. pos i +ℤ w) (is ∙ sub-pos c h) ∙ pos-add-diff c h i
 
   module _ (ne : z ≡ pos 0 → ⊥) where
-    pub parent-below : i + c < 2147483648 → parentBy n i z ≡ Outside
-    parent-below h =
+    pub parent-below : i + c < h → parentBy n i z ≡ Outside
+    parent-below lt =
         attached-at n i z ne ∙ ap (placed n) sum
-        ∙ by-sign (λ w. placed n w ≡ Outside) (i + c) 2147483648 (λ k. absurd (omega arith)) (λ k. refl)
+        ∙ by-sign (λ w. placed n w ≡ Outside) (i + c) h (λ k. absurd (omega arith)) (λ k. refl)
 
-    pub parent-above : 2147483648 ≤ i + c → n ≤ i + c - 2147483648 → parentBy n i z ≡ Outside
-    parent-above h k =
+    pub parent-above : h ≤ i + c → n ≤ i + c - h → parentBy n i z ≡ Outside
+    parent-above le k =
         attached-at n i z ne ∙ ap (placed n) sum
-        ∙ by-sign (λ w. placed n w ≡ Outside) (i + c) 2147483648 (λ l. rw (le-ltb (i + c - 2147483648) n k)) (λ l. refl)
+        ∙ by-sign (λ w. placed n w ≡ Outside) (i + c) h (λ l. rw (le-ltb (i + c - h) n k)) (λ l. refl)
 
-    pub parent-in : 2147483648 ≤ i + c → i + c - 2147483648 < n → parentBy n i z ≡ At (i + c - 2147483648)
-    parent-in h k =
+    pub parent-in : h ≤ i + c → i + c - h < n → parentBy n i z ≡ At (i + c - h)
+    parent-in le k =
         attached-at n i z ne ∙ ap (placed n) sum
-        ∙ by-sign (λ w. placed n w ≡ At (i + c - 2147483648)) (i + c) 2147483648 (λ l. rw (lt-ltb (i + c - 2147483648) n k)) (λ l. absurd (omega arith))
+        ∙ by-sign (λ w. placed n w ≡ At (i + c - h)) (i + c) h (λ l. rw (lt-ltb (i + c - h) n k)) (λ l. absurd (omega arith))

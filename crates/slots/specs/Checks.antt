@@ -1,19 +1,30 @@
--- What document 01 refuses of a line itself: refusals 1 and 4. Assumes nothing.
+-- What documents 01 and 02 refuse of a line itself: refusals 1 and 4. Assumes nothing.
 use mathlib.Core.Bool.{Bool, false, not, _||_}
 use mathlib.Core.List.{List, [], _∷_}
 use Prim.Native.Nat.{ℕ, _*_, _/_, _%_}
 use lib.Dec.{eqb, ltb}
 use lib.ListN.{length}
-use Rattle.slots.specs.Slot.{Slot, slotSize}
-use Rattle.slots.specs.Line.{slots}
+use Rattle.ints.specs.Choice.{if_then_else_}
+use Rattle.slots.specs.Slot.{Slot, known}
+use Rattle.slots.specs.Line.{count}
+use Rattle.slots.specs.declared.shape.Cut.{Cut}
+use Rattle.slots.specs.declared.shape.Cut.the-variants.{Slots, Bad}
 
 -- the longest line
 abbrev pub mostSlots : ℕ
 mostSlots = 1024
 
--- refusal 1: the length is no multiple of 24, or above 24,576
-abbrev pub misshapen : List ℕ → Bool
-misshapen l = not (eqb (length l % slotSize) 0) || ltb (mostSlots * slotSize) (length l)
+-- a length of n bytes that is no multiple of a slot's, or above the longest line's: 24,576 bytes, and 28,672 with clusters
+abbrev pub uneven : ℕ → ℕ → Bool
+uneven z n = not (eqb (n % z) 0) || ltb (mostSlots * z) n
+
+-- refusal 1: slots have no such size, or the line no such length
+abbrev pub misshapen : ℕ → List ℕ → Bool
+misshapen z l = not (known z) || uneven z (length l)
+
+-- how a line is cut into slots of z bytes: how many there are
+abbrev pub cutOf : ℕ → List ℕ → Cut
+cutOf z l = if misshapen z l then Bad else Slots (count z l)
 
 -- a slot's ligature id above 7, component above 15, or a flag bit that is none of the three
 abbrev pub outOfRange : Slot → Bool
@@ -29,5 +40,5 @@ some p [] = false
 some p (s ∷ ss) = p s || some p ss
 
 -- refusal 4: some slot is out of range
-abbrev pub unranged : List ℕ → Bool
-unranged l = some outOfRange (slots l)
+abbrev pub unranged : List Slot → Bool
+unranged ss = some outOfRange ss

@@ -1,6 +1,6 @@
 -- The fields of a slot: reading one, and changing one with all else as it was. Assumes nothing.
 use mathlib.Core.Bool.{Bool}
-use Prim.Native.Nat.{ℕ, _/_, _%_}
+use Prim.Native.Nat.{ℕ, _+_, _*_, _/_, _%_}
 use lib.Dec.{eqb}
 use lib.IntN.{ℤ}
 use Rattle.slots.specs.Slot.{Slot}
@@ -28,6 +28,7 @@ named g i c f s =
       yAdvance = s .yAdvance;
       xOffset = s .xOffset;
       yOffset = s .yOffset;
+      cluster = s .cluster;
     }
 
 abbrev pub withGlyph : ℕ → Slot → Slot
@@ -57,6 +58,7 @@ attached t c s =
       yAdvance = s .yAdvance;
       xOffset = s .xOffset;
       yOffset = s .yOffset;
+      cluster = s .cluster;
     }
 
 abbrev pub withChain : ℤ → Slot → Slot
@@ -94,6 +96,7 @@ moved xa ya xo yo s =
       yAdvance = ya;
       xOffset = xo;
       yOffset = yo;
+      cluster = s .cluster;
     }
 
 -- the advance or the offset on an axis
@@ -115,7 +118,29 @@ advance a s = measure Advance a s
 abbrev pub offset : Axis → Slot → ℤ
 offset a s = measure Offset a s
 
+-- ---- which letter it came from
+-- the slot with another cluster, all else as it was
+abbrev pub withCluster : ℕ → Slot → Slot
+withCluster n s =
+    record {
+      glyph = s .glyph;
+      ligatureId = s .ligatureId;
+      component = s .component;
+      flags = s .flags;
+      attachType = s .attachType;
+      chain = s .chain;
+      xAdvance = s .xAdvance;
+      yAdvance = s .yAdvance;
+      xOffset = s .xOffset;
+      yOffset = s .yOffset;
+      cluster = n;
+    }
+
 -- ---- where in a slot's bytes a field is
+-- a number of two bytes with its bytes exchanged
+abbrev pub swapped : ℕ → ℕ
+swapped n = n % 256 * 256 + n / 256
+
 abbrev pub byteAt : ByteField → ℕ
 byteAt LigatureId = 2
 byteAt Component = 3

@@ -1,31 +1,59 @@
 -- The line: slots one after another, no header. Assumes nothing.
 use mathlib.Core.List.{List, [], _∷_, _++_}
-use Prim.Native.Nat.{ℕ, zero, suc, _/_}
+use mathlib.Core.Path.{_≡_}
+use Prim.Native.Nat.{ℕ, zero, suc, _*_, _/_, _<_, _≤_}
 use lib.ListN.{length, getD, set, take, drop}
 use Rattle.slots.specs.Slot.{Slot, bytesOf, noSlot, slotOf, slotSize, Storable}
+use Rattle.slots.specs.declared.shape.Shape.{Shape}
 
--- how many slots a line of bytes has
-abbrev pub count : List ℕ → ℕ
-count l = length l / slotSize
+-- how many slots of z bytes a line of bytes has
+abbrev pub count : ℕ → List ℕ → ℕ
+count z l = length l / z
 
--- the first n slots of a line of bytes
-unfoldable pub slotsN : ℕ → List ℕ → List Slot
-slotsN zero l = []
-slotsN (suc n) l = slotOf (take slotSize l) ∷ slotsN n (drop slotSize l)
+-- n slots of z bytes
+abbrev pub shapeWith : ℕ → ℕ → Shape
+shapeWith z n = record { size = z; count = n }
 
--- the slots of a line of bytes
-unfoldable pub slots : List ℕ → List Slot
-slots l = slotsN (count l) l
+-- the shape of a line of bytes; and of a part of it of n slots
+abbrev pub shapeOf : ℕ → List ℕ → Shape
+shapeOf z l = shapeWith z (count z l)
 
--- the bytes of a line of slots
-unfoldable pub bytes : List Slot → List ℕ
-bytes [] = []
-bytes (s ∷ ss) = bytesOf s ++ bytes ss
+abbrev pub partShape : Shape → ℕ → Shape
+partShape w n = shapeWith (w .size) n
 
--- every slot can be held by bytes
-unfoldable pub AllStorable : List Slot → Type 0
-AllStorable [] = Unit {0}
-AllStorable (s ∷ ss) = Storable s × AllStorable ss
+-- bytes that have the shape: slots of at least 24 bytes, and exactly their bytes; `few`, which these two imply, bounds the number of slots by the length
+pub record Fits (w : Shape) (l : List ℕ) : Type 0 where
+  pub wide : slotSize ≤ w .size
+  pub whole : length l ≡ w .count * w .size
+  pub few : w .count * slotSize ≤ length l
+
+-- and slot i is one of them
+pub record Inside (w : Shape) (l : List ℕ) (i : ℕ) : Type 0 where
+  pub fits : Fits w l
+  pub below : i < w .count
+
+-- the first n slots of a line of bytes, of z bytes each
+unfoldable pub slotsN : ℕ → ℕ → List ℕ → List Slot
+slotsN z zero l = []
+slotsN z (suc n) l = slotOf (take z l) ∷ slotsN z n (drop z l)
+
+-- the slots of bytes of a shape
+unfoldable pub slots : Shape → List ℕ → List Slot
+slots w l = slotsN (w .size) (w .count) l
+
+-- the slots of a line, of z bytes each
+abbrev pub lineSlots : ℕ → List ℕ → List Slot
+lineSlots z l = slots (shapeOf z l) l
+
+-- the bytes of a line of slots, of z bytes each
+unfoldable pub bytes : ℕ → List Slot → List ℕ
+bytes z [] = []
+bytes z (s ∷ ss) = bytesOf z s ++ bytes z ss
+
+-- every slot can be held by z bytes
+unfoldable pub AllStorable : ℕ → List Slot → Type 0
+AllStorable z [] = Unit {0}
+AllStorable z (s ∷ ss) = Storable z s × AllStorable z ss
 
 -- slot i of a line
 abbrev pub slot : List Slot → ℕ → Slot

@@ -1,8 +1,9 @@
 -- What a slot hangs on: the parent is slot number plus chain. Assumes nothing.
+use mathlib.Core.Bool.{Bool, not}
 use mathlib.Core.List.{List}
 use Prim.Native.Nat.{ℕ, zero, suc}
-use lib.Dec.{ltb}
-use lib.IntN.{ℤ, pos, negsuc, _+ℤ_}
+use lib.Dec.{eqb, ltb}
+use lib.IntN.{ℤ, pos, negsuc, natAbs, _+ℤ_}
 use lib.ListN.{length}
 use Rattle.ints.specs.Choice.{if_then_else_}
 use Rattle.slots.specs.Slot.{Slot}
@@ -25,6 +26,10 @@ parentBy n i (negsuc c) = placed n (pos i +ℤ negsuc c)
 -- what slot i hangs on: nothing, something outside the line, or the slot at a place of the line
 unfoldable pub parent : List Slot → ℕ → Parent
 parent ss i = parentBy (length ss) i (slot ss i .chain)
+
+-- is slot i attached?
+abbrev pub isAttached : List Slot → ℕ → Bool
+isAttached ss i = not (eqb (natAbs (slot ss i .chain)) 0)
 
 -- the line with slot i unattached
 unfoldable pub cleared : List Slot → ℕ → List Slot

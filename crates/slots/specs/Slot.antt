@@ -1,13 +1,15 @@
--- A glyph slot, and its 24 bytes. Assumes nothing.
+-- A glyph slot, and its 24 bytes or 28. Assumes nothing.
+use mathlib.Core.Bool.{Bool, _||_}
 use mathlib.Core.List.{List, [], _∷_, _++_}
-use Prim.Native.Nat.{ℕ, _<_}
+use Prim.Native.Nat.{ℕ, _-_, _^_, _<_}
+use lib.Dec.{eqb}
 use lib.IntN.{ℤ, pos}
 use lib.ListN.{getD}
 use Rattle.ints.specs.BigEndian.{digits, natAt}
 use Rattle.ints.specs.Signed.{InBytes, intAt, pattern}
 
 -- the glyph; its ligature id and component; its flags (1 seen, 2 mark, 4 multiplied); how it is attached (1 mark, 2 cursive) and how many slots on
--- its parent is (0: not attached); its advances and its offsets
+-- its parent is (0: not attached); its advances and its offsets; its cluster, which says what letter it came from
 pub record Slot : Type 0 where
   pub glyph : ℕ
   pub ligatureId : ℕ
@@ -19,12 +21,20 @@ pub record Slot : Type 0 where
   pub yAdvance : ℤ
   pub xOffset : ℤ
   pub yOffset : ℤ
+  pub cluster : ℕ
 
--- how many bytes a slot has
+-- how many bytes a slot has: 24, and 28 with a cluster
 abbrev pub slotSize : ℕ
 slotSize = 24
 
--- the slot in 24 bytes, numbers big-endian
+abbrev pub clusteredSize : ℕ
+clusteredSize = 28
+
+-- a slot has no other size
+abbrev pub known : ℕ → Bool
+known z = eqb z slotSize || eqb z clusteredSize
+
+-- the slot in 24 bytes or 28, numbers big-endian: 24 bytes have cluster 0
 unfoldable pub slotOf : List ℕ → Slot
 slotOf p =
     record {
@@ -38,11 +48,12 @@ slotOf p =
       yAdvance = intAt 4 p 12;
       xOffset = intAt 4 p 16;
       yOffset = intAt 4 p 20;
+      cluster = natAt 4 p 24;
     }
 
--- the 24 bytes of a slot
-unfoldable pub bytesOf : Slot → List ℕ
-bytesOf s =
+-- the first 24 bytes of a slot: all but its cluster
+unfoldable pub plainBytes : Slot → List ℕ
+plainBytes s =
     digits 2 (s .glyph)
     ++ (s .ligatureId ∷ s .component ∷ s .flags ∷ s .attachType ∷ [])
     ++ digits 2 (pattern 2 (s .chain))
@@ -51,8 +62,12 @@ bytesOf s =
     ++ digits 4 (pattern 4 (s .xOffset))
     ++ digits 4 (pattern 4 (s .yOffset))
 
--- what 24 bytes can hold
-pub record Storable (s : Slot) : Type 0 where
+-- the bytes of a slot of z bytes: the cluster has those that are left, four of 28 and none of 24
+abbrev pub bytesOf : ℕ → Slot → List ℕ
+bytesOf z s = plainBytes s ++ digits (z - slotSize) (s .cluster)
+
+-- what z bytes can hold
+pub record Storable (z : ℕ) (s : Slot) : Type 0 where
   pub glyph-fits : s .glyph < 65536
   pub id-fits : s .ligatureId < 256
   pub component-fits : s .component < 256
@@ -63,6 +78,7 @@ pub record Storable (s : Slot) : Type 0 where
   pub y-advance-fits : InBytes 4 (s .yAdvance)
   pub x-offset-fits : InBytes 4 (s .xOffset)
   pub y-offset-fits : InBytes 4 (s .yOffset)
+  pub cluster-fits : s .cluster < 256 ^ (z - slotSize)
 
 -- a slot of zeros: what is read outside a line
 abbrev pub noSlot : Slot
@@ -78,4 +94,5 @@ noSlot =
       yAdvance = pos 0;
       xOffset = pos 0;
       yOffset = pos 0;
+      cluster = 0;
     }

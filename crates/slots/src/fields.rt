@@ -1,9 +1,11 @@
 // A slot's fields, read from and written to a line by the slot's number.
 use crate::axis::Axis;
+use crate::shape::Shape;
 use ints::big_endian::Signed;
 use ints::big_endian::read_i16;
 use ints::big_endian::read_i32;
 use ints::big_endian::read_u16;
+use ints::big_endian::wide;
 use ints::big_endian::write_i16;
 use ints::big_endian::write_i32;
 use ints::big_endian::write_u16;
@@ -12,12 +14,12 @@ ghost use Prim.Native.Nat.{_+_, _-_, _≤_, _<_};
 ghost use lib.IntN.{natAbs};
 ghost use lib.ListN.{length};
 ghost use lib.Seq.{slice};
-ghost use Rattle.ints.specs.Signed.{InBytes, val};
+ghost use Rattle.ints.specs.BigEndian.{natAt};
+ghost use Rattle.ints.specs.Signed.{InBytes, signed, val};
 ghost use Rattle.slots.specs.Slot.{slotOf, slotSize};
-ghost use Rattle.slots.specs.Line.{count, slot, slots, update};
-ghost use Rattle.slots.specs.Fields.{byteAt, byteOf, cursiveBit, flagOf, measure, measureAt, withByte, withChain, withGlyph, withMeasure};
-
-pub const SLOT_SIZE: usize = 24;
+ghost use Rattle.slots.specs.Line.{Fits, Inside, partShape, slot, slots, update};
+ghost use Rattle.slots.specs.Fields.{byteAt, byteOf, cursiveBit, flagOf, measure, measureAt, swapped, withByte, withChain, withGlyph, withMeasure};
+ghost use Rattle.slots.specs.Parent.{isAttached};
 
 // The fields of one byte.
 pub enum ByteField {
@@ -39,46 +41,42 @@ pub enum Measure {
     Offset,
 }
 
-// How many slots the line has.
-pub fn slot_count(line: &[u8]) -> usize
-    ensures { λ r. ⌜ r ≡ count (now (line .entry)) ⌝ }
-{
-    line.len() / SLOT_SIZE
-}
-
 // The slots from i up to j, j not included, as a line of their own.
-pub fn slots_between<'a>(line: &'a [u8], i: usize, j: usize) -> &'a [u8]
-    requires { ⌜ (i ≤ j) × (j ≤ count (now line)) ⌝ }
-    ensures { λ r. ⌜ (slots (now r) ≡ slice i j (slots (now (line .entry)))) × (count (now r) ≡ j - i) ⌝ }
+pub fn slots_between<'a>(line: &'a [u8], shape: Shape, i: usize, j: usize) -> &'a [u8]
+    requires { ⌜ Fits shape (now line) × (i ≤ j) × (j ≤ shape .count) ⌝ }
+    ensures { λ r. ⌜ (slots (partShape shape (j - i)) (now r) ≡ slice i j (slots shape (now (line .entry)))) × Fits (partShape shape (j - i)) (now r) ⌝ }
 {
-    let a = i * SLOT_SIZE;
-    let b = j * SLOT_SIZE;
+    let size = shape.size;
+    let a = i * size;
+    let b = j * size;
     &line[a..b]
 }
 
 // The bytes of slot i.
-fn slot_at<'a>(line: &'a [u8], i: usize) -> &'a [u8]
-    requires { ⌜ i < count (now line) ⌝ }
-    ensures { λ r. ⌜ (slotOf (now r) ≡ slot (slots (now (line .entry))) i) × (length (now r) ≡ slotSize) ⌝ }
+fn slot_at<'a>(line: &'a [u8], shape: Shape, i: usize) -> &'a [u8]
+    requires { ⌜ Inside shape (now line) i ⌝ }
+    ensures { λ r. ⌜ (slotOf (now r) ≡ slot (slots shape (now (line .entry))) i) × (slotSize ≤ length (now r)) ⌝ }
 {
-    let a = i * SLOT_SIZE;
-    let b = a + SLOT_SIZE;
+    let size = shape.size;
+    let a = i * size;
+    let b = a + size;
     &line[a..b]
 }
 
-pub fn glyph(line: &[u8], i: usize) -> u32
-    requires { ⌜ i < count (now line) ⌝ }
-    ensures { λ r. ⌜ (r ≡ slot (slots (now (line .entry))) i .glyph) × (r < 65536) ⌝ }
+pub fn glyph(line: &[u8], shape: Shape, i: usize) -> u32
+    requires { ⌜ Inside shape (now line) i ⌝ }
+    ensures { λ r. ⌜ (r ≡ slot (slots shape (now (line .entry))) i .glyph) × (r < 65536) ⌝ }
 {
-    read_u16(slot_at(line, i), 0)
+    read_u16(slot_at(line, shape, i), 0)
 }
 
-pub fn set_glyph(line: &mut [u8], i: usize, n: u32)
-    requires { ⌜ (i < count (now line)) × (n < 65536) ⌝ }
-    ensures { λ _. ⌜ slots (now (line .exit)) ≡ update i (withGlyph n) (slots (now (line .entry))) ⌝ }
+pub fn set_glyph(line: &mut [u8], shape: Shape, i: usize, n: u32)
+    requires { ⌜ Inside shape (now line) i × (n < 65536) ⌝ }
+    ensures { λ _. ⌜ slots shape (now (line .exit)) ≡ update i (withGlyph n) (slots shape (now (line .entry))) ⌝ }
 {
-    let a = i * SLOT_SIZE;
-    let b = a + SLOT_SIZE;
+    let size = shape.size;
+    let a = i * size;
+    let b = a + size;
     write_u16(&mut line[a..b], 0, n);
 }
 
@@ -94,38 +92,39 @@ fn byte_at(f: ByteField) -> usize
     }
 }
 
-pub fn get_byte(line: &[u8], i: usize, f: ByteField) -> u8
-    requires { ⌜ i < count (now line) ⌝ }
-    ensures { λ r. ⌜ r ≡ byteOf f (slot (slots (now (line .entry))) i) ⌝ }
+pub fn get_byte(line: &[u8], shape: Shape, i: usize, f: ByteField) -> u8
+    requires { ⌜ Inside shape (now line) i ⌝ }
+    ensures { λ r. ⌜ r ≡ byteOf f (slot (slots shape (now (line .entry))) i) ⌝ }
 {
-    let s = slot_at(line, i);
+    let s = slot_at(line, shape, i);
     let at = byte_at(f);
     s[at]
 }
 
 fn put_byte(slot: &mut [u8], f: ByteField, n: u8)
-    requires { ⌜ length (now slot) ≡ slotSize ⌝ }
+    requires { ⌜ slotSize ≤ length (now slot) ⌝ }
     ensures { λ _. ⌜ slotOf (now (slot .exit)) ≡ withByte f n (slotOf (now (slot .entry))) ⌝ }
 {
     let at = byte_at(f);
     slot[at] = n;
 }
 
-pub fn set_byte(line: &mut [u8], i: usize, f: ByteField, n: u8)
-    requires { ⌜ i < count (now line) ⌝ }
-    ensures { λ _. ⌜ slots (now (line .exit)) ≡ update i (withByte f n) (slots (now (line .entry))) ⌝ }
+pub fn set_byte(line: &mut [u8], shape: Shape, i: usize, f: ByteField, n: u8)
+    requires { ⌜ Inside shape (now line) i ⌝ }
+    ensures { λ _. ⌜ slots shape (now (line .exit)) ≡ update i (withByte f n) (slots shape (now (line .entry))) ⌝ }
 {
-    let a = i * SLOT_SIZE;
-    let b = a + SLOT_SIZE;
+    let size = shape.size;
+    let a = i * size;
+    let b = a + size;
     put_byte(&mut line[a..b], f, n);
 }
 
 // Is the flag of slot i set?
-pub fn has_flag(line: &[u8], i: usize, f: Flag) -> bool
-    requires { ⌜ i < count (now line) ⌝ }
-    ensures { λ r. ⌜ r ≡ flagOf f (slot (slots (now (line .entry))) i) ⌝ }
+pub fn has_flag(line: &[u8], shape: Shape, i: usize, f: Flag) -> bool
+    requires { ⌜ Inside shape (now line) i ⌝ }
+    ensures { λ r. ⌜ r ≡ flagOf f (slot (slots shape (now (line .entry))) i) ⌝ }
 {
-    let flags = get_byte(line, i, ByteField::Flags);
+    let flags = get_byte(line, shape, i, ByteField::Flags);
     match f {
         Flag::Seen => flags % 2 == 1,
         Flag::Mark => flags / 2 % 2 == 1,
@@ -140,19 +139,44 @@ pub fn cursive_bit(kind: u8) -> bool
     kind / 2 % 2 == 1
 }
 
-pub fn chain(line: &[u8], i: usize) -> Signed
-    requires { ⌜ i < count (now line) ⌝ }
-    ensures { λ r. ⌜ (val r ≡ slot (slots (now (line .entry))) i .chain) × (natAbs (val r) ≤ 32768) ⌝ }
+pub fn chain(line: &[u8], shape: Shape, i: usize) -> Signed
+    requires { ⌜ Inside shape (now line) i ⌝ }
+    ensures { λ r. ⌜ (val r ≡ slot (slots shape (now (line .entry))) i .chain) × (natAbs (val r) ≤ 32768) ⌝ }
 {
-    read_i16(slot_at(line, i), 6)
+    read_i16(slot_at(line, shape, i), 6)
 }
 
-pub fn set_chain(line: &mut [u8], i: usize, v: Signed)
-    requires { ⌜ (i < count (now line)) × InBytes 2 (val v) ⌝ }
-    ensures { λ _. ⌜ slots (now (line .exit)) ≡ update i (withChain (val v)) (slots (now (line .entry))) ⌝ }
+// The two bytes of a slot's chain as one number, the first lowest: the order in which they are one load.
+fn low_first(slot: &[u8]) -> u32
+    requires { ⌜ slotSize ≤ length (now slot) ⌝ }
+    ensures { λ r. ⌜ (swapped r ≡ natAt 2 (now (slot .entry)) 6) × (r < 65536) ⌝ }
 {
-    let a = i * SLOT_SIZE;
-    let b = a + SLOT_SIZE;
+    wide(slot[6]) + wide(slot[7]) * 256
+}
+
+// The same of slot i. For a test of 0 the bytes need not be swapped.
+pub fn chain_bytes(line: &[u8], shape: Shape, i: usize) -> u32
+    requires { ⌜ Inside shape (now line) i ⌝ }
+    ensures { λ r. ⌜ (signed 2 (swapped r) ≡ slot (slots shape (now (line .entry))) i .chain) × (r < 65536) ⌝ }
+{
+    low_first(slot_at(line, shape, i))
+}
+
+// Is slot i attached?
+pub fn is_attached(line: &[u8], shape: Shape, i: usize) -> bool
+    requires { ⌜ Inside shape (now line) i ⌝ }
+    ensures { λ r. ⌜ r ≡ isAttached (slots shape (now (line .entry))) i ⌝ }
+{
+    chain_bytes(line, shape, i) != 0
+}
+
+pub fn set_chain(line: &mut [u8], shape: Shape, i: usize, v: Signed)
+    requires { ⌜ Inside shape (now line) i × InBytes 2 (val v) ⌝ }
+    ensures { λ _. ⌜ slots shape (now (line .exit)) ≡ update i (withChain (val v)) (slots shape (now (line .entry))) ⌝ }
+{
+    let size = shape.size;
+    let a = i * size;
+    let b = a + size;
     write_i16(&mut line[a..b], 6, v);
 }
 
@@ -173,19 +197,20 @@ fn measure_at(m: Measure, a: Axis) -> usize
 }
 
 // The advance or the offset of slot i on an axis.
-pub fn get(line: &[u8], i: usize, m: Measure, a: Axis) -> Signed
-    requires { ⌜ i < count (now line) ⌝ }
-    ensures { λ r. ⌜ val r ≡ measure m a (slot (slots (now (line .entry))) i) ⌝ }
+pub fn get(line: &[u8], shape: Shape, i: usize, m: Measure, a: Axis) -> Signed
+    requires { ⌜ Inside shape (now line) i ⌝ }
+    ensures { λ r. ⌜ val r ≡ measure m a (slot (slots shape (now (line .entry))) i) ⌝ }
 {
-    read_i32(slot_at(line, i), measure_at(m, a))
+    read_i32(slot_at(line, shape, i), measure_at(m, a))
 }
 
-pub fn set(line: &mut [u8], i: usize, m: Measure, a: Axis, v: Signed)
-    requires { ⌜ i < count (now line) ⌝ }
-    ensures { λ _. ⌜ slots (now (line .exit)) ≡ update i (withMeasure m a (val v)) (slots (now (line .entry))) ⌝ }
+pub fn set(line: &mut [u8], shape: Shape, i: usize, m: Measure, a: Axis, v: Signed)
+    requires { ⌜ Inside shape (now line) i ⌝ }
+    ensures { λ _. ⌜ slots shape (now (line .exit)) ≡ update i (withMeasure m a (val v)) (slots shape (now (line .entry))) ⌝ }
 {
     let at = measure_at(m, a);
-    let from = i * SLOT_SIZE;
-    let to = from + SLOT_SIZE;
+    let size = shape.size;
+    let from = i * size;
+    let to = from + size;
     write_i32(&mut line[from..to], at, v);
 }

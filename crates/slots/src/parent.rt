@@ -1,9 +1,12 @@
 // What a slot hangs on, for any chain and any length of the line.
-use crate::fields::SLOT_SIZE;
-use crate::fields::chain;
+use crate::fields::chain_bytes;
+use crate::shape::Shape;
 ghost use mathlib.Core.Path.{_≡_};
 ghost use Prim.Native.Nat.{_<_};
-ghost use Rattle.slots.specs.Line.{count, slots};
+ghost use lib.IntN.{pos, _-ℤ_};
+ghost use Rattle.ints.specs.Signed.{signed};
+ghost use Rattle.slots.specs.Fields.{swapped};
+ghost use Rattle.slots.specs.Line.{Inside, slots};
 ghost use Rattle.slots.specs.Parent.{parent};
 
 pub enum Parent {
@@ -12,21 +15,30 @@ pub enum Parent {
     At(usize),
 }
 
-// What slot i hangs on: nothing, something outside the line, or a slot of the line.
-pub fn parent_of(line: &[u8], i: usize) -> Parent
-    requires { ⌜ i < count (now line) ⌝ }
-    ensures { λ r. ⌜ r ≡ parent (slots (now (line .entry))) i ⌝ }
+// A chain, given by its bytes, 2 ^ 15 higher: so it is never below 0.
+fn raised(bytes: u32) -> usize
+    requires { ⌜ bytes < 65536 ⌝ }
+    ensures { λ r. ⌜ (signed 2 (swapped bytes) ≡ pos r -ℤ pos 32768) × (r < 65536) ⌝ }
 {
-    let c = chain(line, i);
-    if c == 0 {
+    ((bytes % 256 * 256 + bytes / 256 + 32768) % 65536) as usize
+}
+
+// What slot i hangs on: nothing, something outside the line, or a slot of the line.
+pub fn parent_of(line: &[u8], shape: Shape, i: usize) -> Parent
+    requires { ⌜ Inside shape (now line) i ⌝ }
+    ensures { λ r. ⌜ r ≡ parent (slots shape (now (line .entry))) i ⌝ }
+{
+    let chain = chain_bytes(line, shape, i);
+    if chain == 0 {
         return Parent::None;
     }
-    let lifted = i + ints::saturating::lift(c) as usize;
-    if lifted < 2147483648 {
+    let higher = i + raised(chain);
+    if higher < 32768 {
         return Parent::Outside;
     }
-    let j = lifted - 2147483648;
-    if line.len() < j * SLOT_SIZE + SLOT_SIZE {
+    let j = higher - 32768;
+    let n = shape.count;
+    if n <= j {
         return Parent::Outside;
     }
     Parent::At(j)

@@ -1,14 +1,16 @@
 // Starting a line (`position_start`): every chain and type becomes 0, and nothing else changes.
-use crate::fields::SLOT_SIZE;
+use crate::shape::Shape;
+ghost use mathlib.Core.Bool.{true};
 ghost use mathlib.Core.Path.{_≡_};
+ghost use Prim.Native.Nat.{_≤_};
 ghost use lib.ListN.{length};
-ghost use Rattle.slots.specs.Slot.{slotOf, slotSize};
-ghost use Rattle.slots.specs.Line.{slots};
+ghost use Rattle.slots.specs.Slot.{known, slotOf, slotSize};
+ghost use Rattle.slots.specs.Line.{Fits, shapeWith, slots};
 ghost use Rattle.slots.specs.Start.{started, unattached};
 
 // Chain and type of one slot are set to 0.
 fn clear(slot: &mut [u8])
-    requires { ⌜ length (now slot) ≡ slotSize ⌝ }
+    requires { ⌜ slotSize ≤ length (now slot) ⌝ }
     ensures { λ _. ⌜ slotOf (now (slot .exit)) ≡ unattached (slotOf (now (slot .entry))) ⌝ }
 {
     slot[5] = 0;
@@ -17,15 +19,29 @@ fn clear(slot: &mut [u8])
 }
 
 // Each slot's bytes are lent on as a part that starts in the middle of the line.
-pub fn start_line(line: &mut [u8])
-    ensures { λ _. ⌜ slots (now (line .exit)) ≡ started (slots (now (line .entry))) ⌝ }
+fn clear_all(line: &mut [u8], size: usize, n: usize)
+    requires { ⌜ Fits (shapeWith size n) (now line) ⌝ }
+    ensures { λ _. ⌜ slots (shapeWith size n) (now (line .exit)) ≡ started (slots (shapeWith size n) (now (line .entry))) ⌝ }
 {
-    let n = line.len() / SLOT_SIZE;
     let mut i = 0;
     while i < n {
-        let a = i * SLOT_SIZE;
-        let b = a + SLOT_SIZE;
+        let a = i * size;
+        let b = a + size;
         clear(&mut line[a..b]);
         i += 1;
     }
+}
+
+// Each of the two sizes is a number that the compiler knows: the loop then takes fewer instructions.
+pub fn start_line(line: &mut [u8], shape: Shape)
+    requires { ⌜ Fits shape (now line) × (known (shape .size) ≡ true) ⌝ }
+    ensures { λ _. ⌜ slots shape (now (line .exit)) ≡ started (slots shape (now (line .entry))) ⌝ }
+{
+    let n = shape.count;
+    let size = shape.size;
+    if size == 24 {
+        clear_all(line, 24, n);
+        return;
+    }
+    clear_all(line, 28, n);
 }

@@ -2,6 +2,7 @@
 use crate::answer::announce;
 use crate::answer::show_answer;
 use ints::big_endian::Signed;
+use slots::shape::Shape;
 
 // Glyph 7, all else 0.
 const SEVEN: [u8; 24] =
@@ -20,7 +21,13 @@ fn adjust(name: &[u8], n: Signed, slot: [u8; 24], t: &[u8], direction: u32) {
     announce(name, n);
     let mut space = slot;
     let line: &mut [u8] = &mut space;
-    show_answer(gpos::single(line, t, direction, 1000, 1000, 0), line, 0);
+    let shape = Shape { size: 24, count: 1 };
+    show_answer(
+        gpos::single(line, 24, t, direction, 1000, 1000, 0),
+        line,
+        shape,
+        0,
+    );
 }
 
 // The same in each direction.

@@ -4,9 +4,10 @@ use ints::big_endian::Signed;
 use slots::axis::Axis;
 use slots::fields::Measure;
 use slots::fields::get;
+use slots::shape::Shape;
 ghost use Prim.Native.Nat.{_+_, _≤_, _<_};
 ghost use lib.ListN.{length};
-ghost use Rattle.slots.specs.Line.{count};
+ghost use Rattle.slots.specs.Line.{Inside};
 
 // Prints byte i of a text, or the next number in place of a '#', and answers how many numbers are printed.
 fn print_at(text: &[u8], i: usize, numbers: [Signed; 5], printed: usize) -> usize
@@ -37,13 +38,13 @@ pub fn announce(text: &[u8], n: Signed) {
     print(text, [n, 0, 0, 0, 0]);
 }
 
-fn show_applied(next: usize, line: &[u8], i: usize)
-    requires { ⌜ i < count (now line) ⌝ }
+fn show_applied(next: usize, line: &[u8], shape: Shape, i: usize)
+    requires { ⌜ Inside shape (now line) i ⌝ }
 {
-    let x_offset = get(line, i, Measure::Offset, Axis::X);
-    let y_offset = get(line, i, Measure::Offset, Axis::Y);
-    let x_advance = get(line, i, Measure::Advance, Axis::X);
-    let y_advance = get(line, i, Measure::Advance, Axis::Y);
+    let x_offset = get(line, shape, i, Measure::Offset, Axis::X);
+    let y_offset = get(line, shape, i, Measure::Offset, Axis::Y);
+    let x_advance = get(line, shape, i, Measure::Advance, Axis::X);
+    let y_advance = get(line, shape, i, Measure::Advance, Axis::Y);
     print(
         b"applied, next #, x offset #, y offset #, x advance #, y advance #\n",
         [
@@ -57,8 +58,8 @@ fn show_applied(next: usize, line: &[u8], i: usize)
 }
 
 // What an applying call answered, and the measures of the slot it was made for, as a line.
-pub fn show_answer(answer: Answer, line: &[u8], i: usize)
-    requires { ⌜ i < count (now line) ⌝ }
+pub fn show_answer(answer: Answer, line: &[u8], shape: Shape, i: usize)
+    requires { ⌜ Inside shape (now line) i ⌝ }
 {
     match answer {
         Answer::Refused(r) => show::refused(r),
@@ -67,6 +68,6 @@ pub fn show_answer(answer: Answer, line: &[u8], i: usize)
             next,
             hazards: _,
             attached: _,
-        } => show_applied(next, line, i),
+        } => show_applied(next, line, shape, i),
     }
 }

@@ -1,13 +1,20 @@
 // A mark whose base hangs in a loop, and the most nesting that finishing takes.
 use crate::answer::announce;
 use crate::answer::show_answer;
-ghost use Prim.Native.Nat.{_<_};
-ghost use Rattle.slots.specs.Line.{count};
+use slots::shape::Shape;
+ghost use mathlib.Core.Path.{_≡_};
+ghost use lib.ListN.{length};
 
 fn attach(line: &mut [u8], subtable: &[u8])
-    requires { ⌜ 2 < count (now line) ⌝ }
+    requires { ⌜ length (now line) ≡ 72 ⌝ }
 {
-    show_answer(gpos::mark_base(line, subtable, 0, 1000, 1000, 2), line, 2);
+    let shape = Shape { size: 24, count: 3 };
+    show_answer(
+        gpos::mark_base(line, 24, subtable, 0, 1000, 1000, 2),
+        line,
+        shape,
+        2,
+    );
 }
 
 // Two letters and a mark, the letters' chains 1 and -1.
@@ -29,5 +36,5 @@ pub fn attach_to_loop(kind: u8) {
 pub fn finish_by(limit: u32) {
     let mut space = [0u8; 24];
     announce(b"finish by limit #: ", limit);
-    show::done(gpos::finish(&mut space, 0, limit, true));
+    show::done(gpos::finish(&mut space, 24, 0, limit, true));
 }

@@ -6,8 +6,10 @@ mod attaching; // a mark on a loop, the limit of nesting
 use crate::answer::announce;
 use crate::answer::print;
 use slots::fields::ByteField;
+use slots::shape::Shape;
+ghost use mathlib.Core.Path.{_≡_};
 ghost use Prim.Native.Nat.{_<_, _≤_};
-ghost use Rattle.slots.specs.Line.{count};
+ghost use lib.ListN.{length};
 
 // P1: 3 and -3 at half size.
 fn scales() {
@@ -20,21 +22,50 @@ fn scales() {
 }
 
 // A line of so many zeros is started.
-fn start_zeros(n: usize)
-    requires { ⌜ n ≤ 24600 ⌝ }
+fn start(n: usize, size: usize)
+    requires { ⌜ n ≤ 28700 ⌝ }
 {
-    let mut space = [0u8; 24600];
+    let mut space = [0u8; 28700];
+    show::done(gpos::start(&mut space[..n], size));
+}
+
+fn start_zeros(n: usize)
+    requires { ⌜ n ≤ 28700 ⌝ }
+{
     announce(b"start # bytes: ", n as u32);
-    show::done(gpos::start(&mut space[..n]));
+    start(n, 24);
+}
+
+// The same in slots of any size.
+fn start_sized(n: usize, size: usize)
+    requires { ⌜ (n ≤ 28700) × (size ≤ 28) ⌝ }
+{
+    print(
+        b"start # bytes in slots of #: ",
+        [n as u32, size as u32, 0, 0, 0],
+    );
+    start(n, size);
+}
+
+// Slots with a cluster, at the ends; a line that is whole in either form; and sizes that slots don't have.
+fn start_sizes() {
+    start_sized(28672, 28);
+    start_sized(28700, 28);
+    start_sized(24576, 28);
+    start_sized(168, 24);
+    start_sized(168, 28);
+    start_sized(52, 26);
+    start_sized(0, 0);
 }
 
 // A line of two slots, the second with a field of one byte set, is started.
 fn start_with(name: &[u8], f: ByteField, n: u8) {
     let mut space = [0u8; 48];
     let line: &mut [u8] = &mut space;
-    slots::fields::set_byte(line, 1, f, n);
+    let shape = Shape { size: 24, count: 2 };
+    slots::fields::set_byte(line, shape, 1, f, n);
     announce(name, n as u32);
-    show::done(gpos::start(line));
+    show::done(gpos::start(line, 24));
 }
 
 // The most that a field takes, and one more.
@@ -52,13 +83,15 @@ fn start_ranges() {
     start_with(b"start with type #: ", ByteField::AttachType, 255);
 }
 
+// Slot n of three.
 fn show_attachment(line: &[u8], n: u32)
-    requires { ⌜ n < count (now line) ⌝ }
+    requires { ⌜ (n < 3) × (length (now line) ≡ 72) ⌝ }
 {
     let i = n as usize;
-    let kind = slots::fields::get_byte(line, i, ByteField::AttachType) as u32;
-    let chain = slots::fields::chain(line, i);
-    let glyph = slots::fields::glyph(line, i);
+    let shape = Shape { size: 24, count: 3 };
+    let kind = slots::fields::get_byte(line, shape, i, ByteField::AttachType) as u32;
+    let chain = slots::fields::chain(line, shape, i);
+    let glyph = slots::fields::glyph(line, shape, i);
     print(
         b"  slot # type # chain # glyph #\n",
         [n, kind, chain, glyph, 0],
@@ -66,7 +99,7 @@ fn show_attachment(line: &[u8], n: u32)
 }
 
 fn show_three(line: &[u8])
-    requires { ⌜ 2 < count (now line) ⌝ }
+    requires { ⌜ length (now line) ≡ 72 ⌝ }
 {
     show_attachment(line, 0);
     show_attachment(line, 1);
@@ -84,7 +117,7 @@ fn start_old_attachments() {
     show::text(b"start with old attachments\n");
     show_three(line);
     show::text(b"  ");
-    show::done(gpos::start(line));
+    show::done(gpos::start(line, 24));
     show_three(line);
 }
 
@@ -95,6 +128,7 @@ fn main() {
     start_zeros(25);
     start_zeros(24576);
     start_zeros(24600);
+    start_sizes();
     start_ranges();
     start_old_attachments();
     adjusting::run();

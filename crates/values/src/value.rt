@@ -9,6 +9,7 @@ use ints::saturating::sat_sub;
 use slots::axis::Axis;
 use slots::axis::Direction;
 use slots::fields::Measure;
+use slots::shape::Shape;
 ghost use mathlib.Core.Path.{_≡_};
 ghost use Prim.Native.Nat.{_≤_, _<_};
 ghost use lib.ListN.{length};
@@ -16,45 +17,46 @@ ghost use Rattle.ints.specs.Saturating.{plus};
 ghost use Rattle.ints.specs.Scale.{InScale};
 ghost use Rattle.ints.specs.Signed.{val};
 ghost use Rattle.slots.specs.Fields.{measure, withMeasure};
-ghost use Rattle.slots.specs.Line.{count, slots, update};
+ghost use Rattle.slots.specs.Line.{Inside, slots, update};
 ghost use Rattle.values.specs.Codes.{touchBy};
 ghost use Rattle.values.specs.Format.{bitOf, recordLength, WholeOrEmpty};
 ghost use Rattle.values.specs.Touch.{touched};
 ghost use Rattle.values.specs.Value.{fieldWorks, valued, withField, worked};
 
 // A value added to one of slot i's measures.
-fn add_to(line: &mut [u8], i: usize, m: Measure, a: Axis, v: Signed)
-    requires { ⌜ i < count (now line) ⌝ }
-    ensures { λ _. ⌜ slots (now (line .exit)) ≡ update i (λ s. withMeasure m a (plus (measure m a s) (val v)) s) (slots (now (line .entry))) ⌝ }
+fn add_to(line: &mut [u8], shape: Shape, i: usize, m: Measure, a: Axis, v: Signed)
+    requires { ⌜ Inside shape (now line) i ⌝ }
+    ensures { λ _. ⌜ slots shape (now (line .exit)) ≡ update i (λ s. withMeasure m a (plus (measure m a s) (val v)) s) (slots shape (now (line .entry))) ⌝ }
 {
-    let old = slots::fields::get(line, i, m, a);
-    slots::fields::set(line, i, m, a, sat_add(old, v));
+    let old = slots::fields::get(line, shape, i, m, a);
+    slots::fields::set(line, shape, i, m, a, sat_add(old, v));
 }
 
 // A scaled value put to what an entry of the table names, one that isn't skipped. A fourth test would make the compiler jump by an address, which takes longer.
-fn touch(line: &mut [u8], i: usize, t: u8, v: Signed)
-    requires { ⌜ (i < count (now line)) × (0 < t) × (t < 5) ⌝ }
-    ensures { λ _. ⌜ slots (now (line .exit)) ≡ update i (touched (touchBy t) (val v)) (slots (now (line .entry))) ⌝ }
+fn touch(line: &mut [u8], shape: Shape, i: usize, t: u8, v: Signed)
+    requires { ⌜ Inside shape (now line) i × (0 < t) × (t < 5) ⌝ }
+    ensures { λ _. ⌜ slots shape (now (line .exit)) ≡ update i (touched (touchBy t) (val v)) (slots shape (now (line .entry))) ⌝ }
 {
     if t == 1 {
-        add_to(line, i, Measure::Offset, Axis::X, v);
+        add_to(line, shape, i, Measure::Offset, Axis::X, v);
         return;
     }
     if t == 2 {
-        add_to(line, i, Measure::Offset, Axis::Y, v);
+        add_to(line, shape, i, Measure::Offset, Axis::Y, v);
         return;
     }
     if t == 3 {
-        add_to(line, i, Measure::Advance, Axis::X, v);
+        add_to(line, shape, i, Measure::Advance, Axis::X, v);
         return;
     }
-    let old = slots::fields::get(line, i, Measure::Advance, Axis::Y);
-    slots::fields::set(line, i, Measure::Advance, Axis::Y, sat_sub(old, v));
+    let old = slots::fields::get(line, shape, i, Measure::Advance, Axis::Y);
+    slots::fields::set(line, shape, i, Measure::Advance, Axis::Y, sat_sub(old, v));
 }
 
 // One field that a whole record has, applied to slot i: whether it worked, which looks at the value before scaling.
 fn apply_field(
     line: &mut [u8],
+    shape: Shape,
     i: usize,
     r: &[u8],
     format: u32,
@@ -63,8 +65,8 @@ fn apply_field(
     s: u32,
     u: u32,
 ) -> bool
-    requires { ⌜ (i < count (now line)) × (format < 256) × (field < 8) × (bitOf format field ≡ 1) × (recordLength format ≤ length (now r)) × InScale s u ⌝ }
-    ensures { λ w. ⌜ (slots (now (line .exit)) ≡ update i (withField s u d (now (r .entry)) format field) (slots (now (line .entry)))) × (w ≡ fieldWorks d (now (r .entry)) format field) ⌝ }
+    requires { ⌜ Inside shape (now line) i × (format < 256) × (field < 8) × (bitOf format field ≡ 1) × (recordLength format ≤ length (now r)) × InScale s u ⌝ }
+    ensures { λ w. ⌜ (slots shape (now (line .exit)) ≡ update i (withField s u d (now (r .entry)) format field) (slots shape (now (line .entry)))) × (w ≡ fieldWorks d (now (r .entry)) format field) ⌝ }
 {
     let t = touch_of(d, field as usize);
     if t == 0 {
@@ -72,13 +74,14 @@ fn apply_field(
     }
     let v = read_i16(r, field_place(format, field));
     let z = ints::scale::scale(v, s, u);
-    touch(line, i, t, z);
+    touch(line, shape, i, t, z);
     v != 0
 }
 
 // The record r applied to slot i, field by field in bit order: whether it worked. An empty one, cut or of a format without fields, does nothing and has not worked.
 pub fn apply_value(
     line: &mut [u8],
+    shape: Shape,
     i: usize,
     r: &[u8],
     format: u32,
@@ -86,8 +89,8 @@ pub fn apply_value(
     s: u32,
     u: u32,
 ) -> bool
-    requires { ⌜ (i < count (now line)) × (format < 256) × InScale s u × WholeOrEmpty (now r) format ⌝ }
-    ensures { λ w. ⌜ (slots (now (line .exit)) ≡ update i (valued s u d (now (r .entry)) format) (slots (now (line .entry)))) × (w ≡ worked d (now (r .entry)) format) ⌝ }
+    requires { ⌜ Inside shape (now line) i × (format < 256) × InScale s u × WholeOrEmpty (now r) format ⌝ }
+    ensures { λ w. ⌜ (slots shape (now (line .exit)) ≡ update i (valued s u d (now (r .entry)) format) (slots shape (now (line .entry)))) × (w ≡ worked d (now (r .entry)) format) ⌝ }
 {
     if r.len() == 0 {
         return false;
@@ -96,7 +99,7 @@ pub fn apply_value(
     let mut field: u32 = 0;
     while format >> field != 0 {
         field = next_field(format, field);
-        if apply_field(line, i, r, format, field, d, s, u) {
+        if apply_field(line, shape, i, r, format, field, d, s, u) {
             works = true;
         }
         field += 1;

@@ -1,4 +1,4 @@
--- After i turns the first i slots are filled; the line keeps its length, and so its count. Assumes nothing.
+-- After i turns the first i slots are filled; the line keeps its length, and so its shape. Assumes nothing.
 use mathlib.Core.Path.{_≡_, refl, ap, _∙_}
 use mathlib.Core.List.{List}
 use Prim.Native.Nat.{ℕ, _+_, _-_, _≤_}
@@ -6,7 +6,7 @@ use native.Mathlib.Numerals.{add-one}
 use native.Mathlib.Omega.{arith}
 use lib.ListN.{length}
 use Rattle.slots.specs.Slot.{Slot}
-use Rattle.slots.specs.Line.{count, slots, update}
+use Rattle.slots.specs.Line.{slots, update}
 use Rattle.finish_run.specs.Cases.{filledSlot, filledTo}
 use Rattle.finish_run.specs.declared.Case.{Case}
 use borrow.Author.Needs.{needs}
@@ -19,13 +19,10 @@ unfolding filledTo
 one-more c i ss before turn = rw add-one (turn ∙ ap (update i (filledSlot c i)) before)
 
 abbrev Inv-loop : tie.InvT-loop
-Inv-loop line₀ case n i₀ line i = (length line ≡ length line₀) × (i ≤ n) × (slots line ≡ filledTo case i (slots line₀))
+Inv-loop line₀ shape case n i₀ line i = (length line ≡ length line₀) × (i ≤ n) × (slots shape line ≡ filledTo case i (slots shape line₀))
 
 abbrev μ-loop : tie.MeasureT-loop
-μ-loop line₀ case n i₀ line i = n - i
-
-slot-count-requires : tie.Need-slot-count-requires Inv-loop μ-loop
-slot-count-requires c κs = search needs
+μ-loop line₀ shape case n i₀ line i = n - i
 
 loop-holds : tie.Need-loop-holds Inv-loop μ-loop
 unfolding filledTo
@@ -42,19 +39,19 @@ loop-less c = search needs
 
 loop-again : tie.Need-loop-again Inv-loop μ-loop
 loop-again c =
-    let a = c .before .before .before .before .before .before .before .before .before .args in
+    let a = c .before .before .before .before .before .before .before .args in
     let l = c .before .before .before .before .before .loop in
-    (search needs, omega arith, one-more (a .case) (l .i) (slots (a .line .now)) (l .inv .2) (c .before .before .fill-slot .ensures))
+    (search needs, omega arith, one-more (a .case) (l .i) (slots (a .shape) (a .line .now)) (l .inv .2) (c .before .before .fill-slot .ensures))
 
 same-length : tie.Need-same-length Inv-loop μ-loop
 same-length c = search needs
 
 returns : tie.Need-returns Inv-loop μ-loop
 returns c =
-    let a = c .before .before .before .before .before .args in
+    let a = c .before .before .before .args in
     let l = c .before .loop in
-    let all : l .i ≡ count (a .line .now) = omega arith in
-    l .inv .2 ∙ ap (λ (n : ℕ). filledTo (a .case) n (slots (a .line .now))) all
+    let all : l .i ≡ a .shape .count = omega arith in
+    l .inv .2 ∙ ap (λ (n : ℕ). filledTo (a .case) n (slots (a .shape) (a .line .now))) all
 
 pub fill-spec : {M : Type 1} → statement M
 fill-spec =
@@ -62,7 +59,6 @@ fill-spec =
     (tie.spec
     Inv-loop
     μ-loop
-    slot-count-requires
     loop-holds
     fill-slot-requires
     add-i

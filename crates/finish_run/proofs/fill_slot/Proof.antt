@@ -64,8 +64,8 @@ same-length c = search needs
 returns : tie.Need-returns
 returns c =
     let a = c .before .before .before .before .before .before .before .before .before .before .before .before .before .before .before .before .before .args in
-    let ss = slots (a .line .now) in
-    let lt : a .i < length ss = omega (arith, length-slots (a .line .now)) in
+    let ss = slots (a .shape) (a .line .now) in
+    let lt : a .i < length ss = omega (arith, length-slots (a .shape) (a .line .now)) in
     let x = c .before .before .before .before .before .before .before .before .before .before .before .before .before .before .before .spread in
     let y = c .before .before .before .before .before .before .before .before .before .before .before .before .before .before .spread2 in
     let to-x = c .before .before .before .before .before .before .before .before .before .before .before .before .before .spread3 in

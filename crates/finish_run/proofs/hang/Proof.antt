@@ -37,10 +37,10 @@ same-length c = search needs
 returns : tie.Need-returns
 returns c =
     let a = c .before .before .before .before .before .before .before .before .before .before .before .before .args in
-    let ss = slots (a .line .now) in
+    let ss = slots (a .shape) (a .line .now) in
     let kind = c .before .before .before .before .before .before .before .before .before .kind-of in
     let chain = c .before .before .before .less-ten in
-    update-both (a .i) (withByte AttachType (kind .result)) ss (withChain (val (chain .result))) (omega (arith, length-slots (a .line .now))) (c .before .before .before .before .before .before .before .before .set-byte .ensures) (c .before .before .set-chain .ensures)
+    update-both (a .i) (withByte AttachType (kind .result)) ss (withChain (val (chain .result))) (omega (arith, length-slots (a .shape) (a .line .now))) (c .before .before .before .before .before .before .before .before .set-byte .ensures) (c .before .before .set-chain .ensures)
     ∙ ap₂ (λ (k : ℕ) (z : ℤ). update (a .i) (attached k z) ss) (kind .ensures) (chain .ensures .0 ∙ ap lessTen (c .before .before .before .before .chain-and-ten .ensures .0))
 
 pub hang-spec : {M : Type 1} → statement M

@@ -21,8 +21,8 @@ same-length c = search needs
 returns : tie.Need-returns
 returns c =
     let a = c .before .before .before .before .before .before .before .before .before .args in
-    let ss = slots (a .line .now) in
-    update-both (a .i) (withMeasure (a .m) X (val (a .x))) ss (withMeasure (a .m) Y (val (a .y))) (omega (arith, length-slots (a .line .now))) (c .before .before .before .before .before .before .set .ensures) (c .before .before .set2 .ensures)
+    let ss = slots (a .shape) (a .line .now) in
+    update-both (a .i) (withMeasure (a .m) X (val (a .x))) ss (withMeasure (a .m) Y (val (a .y))) (omega (arith, length-slots (a .shape) (a .line .now))) (c .before .before .before .before .before .before .set .ensures) (c .before .before .set2 .ensures)
 
 pub set-both-spec : {M : Type 1} → statement M
 set-both-spec = tie.close (tie.spec set-requires set-requires-2 same-length returns)

@@ -1,17 +1,14 @@
--- Each slot's number is below the count, and the count of so short a line is small. Assumes nothing.
+-- Each slot's number is below the count, and so short a line has few slots. Assumes nothing.
 use borrow.Author.Needs.{needs}
 use Prim.Native.Nat.{_-_}
 use Rattle.finishing.proofs.show_slots.Statement.{statement}
 use Rattle.finishing.proofs.show_slots.Tie as tie
 
 abbrev Inv-loop : tie.InvT-loop
-Inv-loop line n i₀ i = Unit {0}
+Inv-loop line n shape i₀ i = Unit {0}
 
 abbrev μ-loop : tie.MeasureT-loop
-μ-loop line n i₀ i = n - i
-
-slot-count-requires : tie.Need-slot-count-requires Inv-loop μ-loop
-slot-count-requires c κs = search needs
+μ-loop line n shape i₀ i = n - i
 
 loop-holds : tie.Need-loop-holds Inv-loop μ-loop
 loop-holds c = tt
@@ -37,7 +34,6 @@ show-slots-spec =
     (tie.spec
     Inv-loop
     μ-loop
-    slot-count-requires
     loop-holds
     slot-requires
     add-i

@@ -1,4 +1,4 @@
--- It answers what cursive answers for the neighbour that the numbers name. Assumes nothing.
+-- It answers what its namesake answers for what the numbers name. Assumes nothing.
 use mathlib.Core.Path.{sym}
 use borrow.Author.Needs.{needs}
 use Rattle.gpos_c.proofs.gpos_cursive.Statement.{statement}
@@ -23,6 +23,4 @@ returns c =
     record { answer = call .result; may = rw (sym named) (call .ensures); numbers = c .flat-of .ensures }
 
 pub gpos-cursive-spec : {M : Type 1} → statement M
-gpos-cursive-spec =
-    tie.close
-    (tie.spec neighbour-of-requires cursive-requires flat-of-requires same-length returns)
+gpos-cursive-spec = tie.close (tie.spec neighbour-of-requires cursive-requires flat-of-requires same-length returns)

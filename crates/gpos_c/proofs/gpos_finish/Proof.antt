@@ -1,4 +1,4 @@
--- It answers what finish answers for the flag that the number sets. Assumes nothing.
+-- It answers what its namesake answers for what the numbers name. Assumes nothing.
 use mathlib.Core.Path.{sym}
 use borrow.Author.Needs.{needs}
 use Rattle.gpos_c.proofs.gpos_finish.Statement.{statement}
@@ -19,9 +19,8 @@ same-length c = search needs
 returns : tie.Need-returns
 returns c =
     let call = c .before .before .before .finish in
-    let flag = c .before .before .before .before .is-set .ensures in
-    record { answer = call .result; may = rw (sym flag) (call .ensures); numbers = c .done-number .ensures }
+    let named = c .before .before .before .before .is-set .ensures in
+    record { answer = call .result; may = rw (sym named) (call .ensures); numbers = c .done-number .ensures }
 
 pub gpos-finish-spec : {M : Type 1} → statement M
-gpos-finish-spec =
-    tie.close (tie.spec is-set-requires finish-requires done-number-requires same-length returns)
+gpos-finish-spec = tie.close (tie.spec is-set-requires finish-requires done-number-requires same-length returns)

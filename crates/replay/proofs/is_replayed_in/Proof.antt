@@ -11,6 +11,9 @@ place-requires c κs = search needs
 place-requires-2 : tie.Need-place-requires-2
 place-requires-2 c κs = search needs
 
+after-length-requires : tie.Need-after-length-requires
+after-length-requires c κs = search needs
+
 returns : tie.Need-returns
 returns c = search needs
 
@@ -59,6 +62,7 @@ is-replayed-in-spec =
     (tie.spec
     place-requires
     place-requires-2
+    after-length-requires
     returns
     returns-2
     returns-3

@@ -28,8 +28,8 @@ join-requires c κs =
     let w = subst (Sound (s .args .idx)) (k .decision2 .given .1) (k .before .before .decide .ensures .1) in
     (w .0, omega arith, s .pre .2, w .1 .0, w .1 .1)
 
-add-t20 : tie.Need-add-t20
-add-t20 c = search needs
+add-t21 : tie.Need-add-t21
+add-t21 c = search needs
 
 add-break-range : tie.Need-add-break-range
 add-break-range c = search needs
@@ -44,7 +44,7 @@ returns : tie.Need-returns
 returns c =
     let k = c .before in
     let a = k .before .before .before .before .before .before .args in
-    let ss = slots (now (a .line)) in
+    let ss = slots (a .shape) (now (a .line)) in
     effect-stop (a .s) (a .u) (a .d) (a .flag) (a .idx) (planOf (now (a .t)) ss (a .idx) (a .previous)) ss (ranges (k .decision .given .0 .0))
     (sym (ap meant (k .decision .given .1)) ∙ k .before .before .decide .ensures .0)
 
@@ -56,7 +56,7 @@ returns-2 c =
     let j = c .before .before .before in
     let k = j .before .before .before in
     let a = k .before .before .before .before .before .before .args in
-    let ss = slots (now (a .line)) in
+    let ss = slots (a .shape) (now (a .line)) in
     let w = k .decision2 .given .0 in
     rw (c .break-range .ensures)
     (effect-join (a .s) (a .u) (a .d) (a .flag) (a .idx) (planOf (now (a .t)) ss (a .idx) (a .previous)) ss (w .0) (spotOf (w .1 .0)) (spotOf (w .1 .1 .0)) _
@@ -70,7 +70,7 @@ attach-spec =
     enum-known-decision
     enum-known-decision-2
     join-requires
-    add-t20
+    add-t21
     add-break-range
     break-range-requires
     same-length

@@ -21,7 +21,7 @@ returns c =
     let k = c .before .before in
     let m = k .before .before .before in
     let a = m .before .before .args in
-    crossed-set (a .a) (a .flag) (a .i) (a .idx) (val (a .exit)) (val (a .entry)) (slots (now (a .line))) (m .sat-sub .ensures) (k .before .before .if1 .taken) (k .tie .ensures)
+    crossed-set (a .a) (a .flag) (a .i) (a .idx) (val (a .exit)) (val (a .entry)) (slots (a .shape) (now (a .line))) (m .sat-sub .ensures) (k .before .before .if1 .taken) (k .tie .ensures)
 
 sat-neg-requires : tie.Need-sat-neg-requires
 sat-neg-requires c κs = search needs
@@ -37,7 +37,7 @@ returns-2 c =
     let k = c .before .before in
     let m = k .before .before .before .before in
     let a = m .before .before .args in
-    crossed-clear (a .a) (a .flag) (a .i) (a .idx) (val (a .exit)) (val (a .entry)) (slots (now (a .line))) (m .sat-sub .ensures) (k .before .before .before .if1 .left)
+    crossed-clear (a .a) (a .flag) (a .i) (a .idx) (val (a .exit)) (val (a .entry)) (slots (a .shape) (now (a .line))) (m .sat-sub .ensures) (k .before .before .before .if1 .left)
     (k .before .sat-neg .ensures) (k .tie2 .ensures)
 
 pub cross-over-spec : {M : Type 1} → statement M

@@ -24,7 +24,7 @@ returns c =
     let k = c .before .before in
     let g = k .before .before .before in
     let a = g .before .before .before .args in
-    ended-is (a .a) (a .i) (slots (now (a .line))) (val (a .z)) (g .get .ensures) (k .before .sat-add .ensures) (k .set .ensures)
+    ended-is (a .a) (a .i) (slots (a .shape) (now (a .line))) (val (a .z)) (g .get .ensures) (k .before .sat-add .ensures) (k .set .ensures)
 
 pub end-at-spec : {M : Type 1} → statement M
 end-at-spec = tie.close (tie.spec get-requires sat-add-requires set-requires same-length returns)

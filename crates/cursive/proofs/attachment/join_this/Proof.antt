@@ -13,7 +13,7 @@ use Rattle.cursive.proofs.attachment.join_this.Tie as tie
 
 -- the line that a direction leads to
 abbrev line-by : tie.Start → Direction → List Slot
-line-by s d = update (s .args .i) (thisJoined d (val (s .args .z))) (slots (now (s .args .line)))
+line-by s d = update (s .args .i) (thisJoined d (val (s .args .z))) (slots (s .args .shape) (now (s .args .line)))
 
 enum-told : tie.Need-enum-told
 enum-told c = search needs

@@ -42,7 +42,7 @@ returns c =
     let o = d .before .before in
     let s = o .before .before .before in
     let a = s .args in
-    pulled-is (a .a) (a .i) (slots (now (a .line))) (val (a .z)) (o .get .ensures) (omega (arith, length-slots (now (a .line)), s .pre)) (d .get2 .ensures)
+    pulled-is (a .a) (a .i) (slots (a .shape) (now (a .line))) (val (a .z)) (o .get .ensures) (omega (arith, length-slots (a .shape) (now (a .line)), s .pre)) (d .get2 .ensures)
     (m .sat-add .ensures) (k₁ .before .sat-sub .ensures) (k₁ .set .ensures) (k₂ .before .sat-sub2 .ensures) (k₂ .set2 .ensures)
 
 pub pull-to-spec : {M : Type 1} → statement M

@@ -24,7 +24,7 @@ returns c =
     let n = h .before .before in
     let s = n .before .before in
     let a = s .args in
-    stays (a .a) (a .parent) (slots (now (a .line))) (a .chain) (h .chain .result) (n .sat-neg .result) (s .pre .1) (h .chain .ensures .0) (n .sat-neg .ensures)
+    stays (a .a) (a .parent) (slots (a .shape) (now (a .line))) (a .chain) (h .chain .result) (n .sat-neg .result) (s .pre .1) (h .chain .ensures .0) (n .sat-neg .ensures)
     (omega arith) (omega arith) (c .if1 .taken)
 
 set-requires : tie.Need-set-requires
@@ -44,8 +44,8 @@ returns-2 c =
     let n = h .before .before in
     let s = n .before .before in
     let a = s .args in
-    separates (a .a) (a .parent) (slots (now (a .line))) (a .chain) (h .chain .result) (n .sat-neg .result) (s .pre .1) (h .chain .ensures .0) (n .sat-neg .ensures)
-    (omega (arith, length-slots (now (a .line)), s .pre .0)) (k₁ .before .before .if1 .left) (k₁ .set .ensures) (k₂ .set-chain .ensures)
+    separates (a .a) (a .parent) (slots (a .shape) (now (a .line))) (a .chain) (h .chain .result) (n .sat-neg .result) (s .pre .1) (h .chain .ensures .0) (n .sat-neg .ensures)
+    (omega (arith, length-slots (a .shape) (now (a .line)), s .pre .0)) (k₁ .before .before .if1 .left) (k₁ .set .ensures) (k₂ .set-chain .ensures)
 
 pub separate-spec : {M : Type 1} → statement M
 separate-spec =

@@ -31,7 +31,7 @@ returns c =
     let r = n .before .before .before in
     let s = r .before .before .before in
     let a = s .args in
-    tied-is (a .a) (a .child) (a .parent) (val (a .z)) (slots (now (a .line))) (omega (arith, length-slots (now (a .line)), s .pre .0))
+    tied-is (a .a) (a .child) (a .parent) (val (a .z)) (slots (a .shape) (now (a .line))) (omega (arith, length-slots (a .shape) (now (a .line)), s .pre .0))
     (r .reverse .ensures) (n .chain-to .ensures .0) (h .hang .ensures) (c .before .before .separate .ensures)
 
 pub tie-spec : {M : Type 1} → statement M

@@ -28,7 +28,7 @@ returns c =
     let k₁ = k₂ .before .before .before .before in
     let s = k₁ .before .before .before in
     let a = s .args in
-    hung-by (a .i) (a .kind) (val (a .chain)) (a .a) (val (a .z)) (slots (now (a .line))) (omega (arith, length-slots (now (a .line)), s .pre .0))
+    hung-by (a .i) (a .kind) (val (a .chain)) (a .a) (val (a .z)) (slots (a .shape) (now (a .line))) (omega (arith, length-slots (a .shape) (now (a .line)), s .pre .0))
     (k₁ .set .ensures) (k₂ .set-chain .ensures) (k₃ .set-byte .ensures)
 
 pub hang-spec : {M : Type 1} → statement M

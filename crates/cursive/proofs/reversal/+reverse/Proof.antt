@@ -1,5 +1,6 @@
 -- `cursive::reversal::reverse` meets its contract: each way through it is one equation of `reversed`, and a call that goes on has cleared an attached slot, so
 -- that the number of attached slots falls. Assumes nothing.
+use mathlib.Core.List.{List}
 use mathlib.Core.Path.{_≡_, sym, _∙_}
 use mathlib.Core.Bool.{true}
 use Prim.Native.Nat.{ℕ, _<_}
@@ -8,7 +9,8 @@ use borrow.Author.Needs.{needs}
 use borrow.Author.Tests.{not-false, not-true}
 use denote.Ref.{now}
 use lib.ListN.{length}
-use Rattle.slots.specs.Line.{count, slot, slots}
+use Rattle.slots.specs.Slot.{Slot}
+use Rattle.slots.specs.Line.{shapeWith, slot, slots}
 use Rattle.slots.specs.Fields.{cursiveBit}
 use Rattle.slots.specs.Parent.{parent}
 use Rattle.slots.specs.declared.parent.Parent.the-variants.{At}
@@ -36,7 +38,7 @@ use Rattle.cursive.proofs.reversal.+reverse.Tie.{close}
 
 -- the measure: how many slots are attached
 abbrev μ-reverse : Measures 1 reverse-kinds.ps ℕ
-μ-reverse κs a = attachedCount (slots (a .0 .now))
+μ-reverse κs a = attachedCount (slots (shapeWith (a .1 .0) (a .1 .1 .0)) (a .0 .now))
 
 -- what a call may assume, and what it owes to the call inside it: a smaller measure
 abbrev reverse-at : ℕ → In 1 reverse-kinds.ps
@@ -80,26 +82,31 @@ Begin t = reverse-lts.Start (calls t) (reverse-at t) reverse.Post
 abbrev start : (t : ℕ) → Known t → Begin t
 start t k = k .before .before .before .before .before .before .before .before .before .before
 
+-- the line as it was passed
+abbrev first : (t : ℕ) → Known t → List Slot
+first t k = slots (shapeWith (start t k .args .size) (start t k .args .n)) (now (start t k .args .line))
+
 -- the parent's place
 abbrev to : (t : ℕ) → Known t → ℕ
 to t k = k .before .parent .given .0 .0
 
 -- slot i is in the line
-here : (t : ℕ) (k : Known t) → start t k .args .i < length (slots (now (start t k .args .line)))
-here t k = omega (arith, length-slots (now (start t k .args .line)), start t k .pre .1)
+here : (t : ℕ) (k : Known t) → start t k .args .i < length (first t k)
+here t k = omega (arith, length-slots (shapeWith (start t k .args .size) (start t k .args .n)) (now (start t k .args .line)), start t k .pre .1)
 
 -- the parent that was found
-parent-is : (t : ℕ) (k : Known t) → parent (slots (now (start t k .args .line))) (start t k .args .i) ≡ At (to t k)
+parent-is : (t : ℕ) (k : Known t) → parent (first t k) (start t k .args .i) ≡ At (to t k)
 parent-is t k = sym (k .before .before .before .parent-of .ensures) ∙ k .before .parent .given .1
 
 -- and so is its parent
-there : (t : ℕ) (k : Known t) → to t k < count (now (start t k .args .line))
+there : (t : ℕ) (k : Known t) → to t k < start t k .args .n
 there t k =
+    let w = shapeWith (start t k .args .size) (start t k .args .n) in
     let l = now (start t k .args .line) in
-    omega (arith, length-slots l, parent-in-line (slots l) (start t k .args .i) (to t k) (parent-is t k))
+    omega (arith, length-slots w l, parent-in-line (slots w l) (start t k .args .i) (to t k) (parent-is t k))
 
 -- the type that was read is the slot's, and has the cursive bit
-kind-is : (t : ℕ) (k : Known t) → k .before .before .before .before .before .before .before .get-byte .result ≡ slot (slots (now (start t k .args .line))) (start t k .args .i) .attachType
+kind-is : (t : ℕ) (k : Known t) → k .before .before .before .before .before .before .before .get-byte .result ≡ slot (first t k) (start t k .args .i) .attachType
 kind-is t k = k .before .before .before .before .before .before .before .get-byte .ensures
 
 bit-is : (t : ℕ) (k : Known t) → cursiveBit (k .before .before .before .before .before .before .before .get-byte .result) ≡ true
@@ -118,7 +125,7 @@ reverse-returns : (t : ℕ) → reverse-lts.Need-returns (calls t) (reverse-at t
 reverse-returns t c =
     let k = c .before .before in
     let a = k .before .before .before .args in
-    stays-plain (a .a) (slots (now (a .line))) (a .i) (a .p) (k .get-byte .ensures) (sym (c .before .cursive-bit .ensures) ∙ not-true _ (c .if1 .taken))
+    stays-plain (a .a) (slots (shapeWith (a .size) (a .n)) (now (a .line))) (a .i) (a .p) (k .get-byte .ensures) (sym (c .before .cursive-bit .ensures) ∙ not-true _ (c .if1 .taken))
 
 reverse-parent-of-requires : (t : ℕ) → reverse-lts.Need-parent-of-requires (calls t) (reverse-at t) reverse.Post
 reverse-parent-of-requires t c κs = search needs
@@ -149,15 +156,16 @@ reverse-returns-2 t c =
     let w = c .before .before .before in
     let k = w .before .before .before .before in
     let a = start t k .args in
-    ends-new (a .a) (slots (now (a .line))) (a .i) (a .p) (kind-is t k) (here t k) (bit-is t k) (w .set-chain2 .ensures) (to t k) (parent-is t k) (c .if2 .taken)
+    ends-new (a .a) (first t k) (a .i) (a .p) (kind-is t k) (here t k) (bit-is t k) (w .set-chain2 .ensures) (to t k) (parent-is t k) (c .if2 .taken)
 
 reverse-reverse-requires : (t : ℕ) → reverse-lts.Need-reverse-requires (calls t) (reverse-at t) reverse.Post
 reverse-reverse-requires t c κs =
     let w = c .before .before .before .before in
     let k = w .before .before .before .before in
     let a = start t k .args in
-    let less = falls-at (a .a) (slots (now (a .line))) (a .i) (a .p) (kind-is t k) (here t k) (bit-is t k) (w .set-chain2 .ensures) (to t k) (parent-is t k) in
+    let less = falls-at (a .a) (first t k) (a .i) (a .p) (kind-is t k) (here t k) (bit-is t k) (w .set-chain2 .ensures) (to t k) (parent-is t k) in
     let in-line = there t k in
+    let inside = start t k .pre .1 in
     (omega (arith, start t k .pre .0, less), search needs)
 
 reverse-get-requires : (t : ℕ) → reverse-lts.Need-get-requires (calls t) (reverse-at t) reverse.Post
@@ -182,7 +190,7 @@ reverse-returns-3 : (t : ℕ) → reverse-lts.Need-returns-3 (calls t) (reverse-
 reverse-returns-3 t c =
     let k = c .before .before in
     let a = k .before .before .before .before .before .before .before .args in
-    sym (reversed-free (a .a) (slots (now (a .line))) (a .i) (a .p) (sym (k .parent-of .ensures) ∙ c .enum-told .given .1))
+    sym (reversed-free (a .a) (slots (shapeWith (a .size) (a .n)) (now (a .line))) (a .i) (a .p) (sym (k .parent-of .ensures) ∙ c .enum-told .given .1))
 
 reverse-same-length-4 : (t : ℕ) → reverse-lts.Need-same-length-4 (calls t) (reverse-at t) reverse.Post
 reverse-same-length-4 t c = search needs
@@ -195,7 +203,7 @@ reverse-returns-4 t c =
     let g = b .before in
     let s = g .before .before .before in
     let a = s .args in
-    ends-outside (a .a) (slots (now (a .line))) (a .i) (a .p) (g .get-byte .ensures) (omega (arith, length-slots (now (a .line)), s .pre .1))
+    ends-outside (a .a) (slots (shapeWith (a .size) (a .n)) (now (a .line))) (a .i) (a .p) (g .get-byte .ensures) (omega (arith, length-slots (shapeWith (a .size) (a .n)) (now (a .line)), s .pre .1))
     (sym (b .cursive-bit .ensures) ∙ not-false _ (k .before .before .if1 .left)) (w .set-chain .ensures) (sym (k .parent-of .ensures) ∙ w .before .before .enum-told2 .given .1)
 
 reverse-same-length-5 : (t : ℕ) → reverse-lts.Need-same-length-5 (calls t) (reverse-at t) reverse.Post
@@ -209,7 +217,9 @@ reverse-returns-5 t c =
     let w = r .before .before .before .before .before in
     let k = w .before .before .before .before in
     let a = start t k .args in
-    goes-on (a .a) (slots (now (a .line))) (a .i) (a .p) (kind-is t k) (here t k) (bit-is t k) (w .set-chain2 .ensures) (to t k) (parent-is t k) (r .before .before .if2 .left)
+    let shape = shapeWith (a .size) (a .n) in
+    goes-on (a .a) (first t k) (a .i) (a .p) (kind-is t k) (here t k) (bit-is t k) (w .set-chain2 .ensures) (to t k) (parent-is t k) (r .before .before .if2 .left)
+    {ss₂ = slots shape (r .reverse .last .0)} {ss₃ = slots shape (h .hang .last .0)}
     (w .before .before .chain .ensures .0) (r .reverse .ensures) (n .before .get .ensures) (n .sat-neg .ensures) (h .before .before .chain-back .ensures .0) (h .hang .ensures)
 
 pub +reverse-spec : {M : Type 1} → statement M

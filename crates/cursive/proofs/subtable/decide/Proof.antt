@@ -31,8 +31,8 @@ returns c =
     let k = c .before .before .before in
     let x = k .before .before in
     let a = x .before .before .before .before .args in (
-      plan-is (now (a .t)) (slots (now (a .line))) (a .idx) (a .previous) (x .before .glyph .ensures .0) (x .index-of .ensures) (k .covered .given .1)
-          (found (fromEntry (now (a .t)) (slots (now (a .line))) (a .idx) (a .previous)) (c .before .record-anchor .ensures .0) (c .from-entry .ensures .0)),
+      plan-is (now (a .t)) (slots (a .shape) (now (a .line))) (a .idx) (a .previous) (x .before .glyph .ensures .0) (x .index-of .ensures) (k .covered .given .1)
+          (found (fromEntry (now (a .t)) (slots (a .shape) (now (a .line))) (a .idx) (a .previous)) (c .before .record-anchor .ensures .0) (c .from-entry .ensures .0)),
       c .from-entry .ensures .1,
     )
 
@@ -40,7 +40,7 @@ returns-2 : tie.Need-returns-2
 returns-2 c =
     let x = c .before .before in
     let a = x .before .before .before .before .args in
-    (plan-is (now (a .t)) (slots (now (a .line))) (a .idx) (a .previous) (x .before .glyph .ensures .0) (x .index-of .ensures) (c .enum-told .given .1) refl, tt)
+    (plan-is (now (a .t)) (slots (a .shape) (now (a .line))) (a .idx) (a .previous) (x .before .glyph .ensures .0) (x .index-of .ensures) (c .enum-told .given .1) refl, tt)
 
 pub decide-spec : {M : Type 1} → statement M
 decide-spec =

@@ -13,7 +13,7 @@ use Rattle.cursive.proofs.subtable.from_entry.Tie as tie
 
 -- the plan that an entry anchor leads to
 abbrev by-entry : tie.Start → Anchor → Plan
-by-entry s x = fromEntry (now (s .args .t)) (slots (now (s .args .line))) (s .args .idx) (s .args .previous) (spot x)
+by-entry s x = fromEntry (now (s .args .t)) (slots (s .args .shape) (now (s .args .line))) (s .args .idx) (s .args .previous) (spot x)
 
 enum-known-entry : tie.Need-enum-known-entry
 enum-known-entry c = search needs

@@ -15,7 +15,7 @@ use Rattle.cursive.proofs.subtable.from_neighbour.Tie as tie
 
 -- the plan that a neighbour leads to
 abbrev by-neighbour : tie.Start → Neighbour → Plan
-by-neighbour s n = fromNeighbour (now (s .args .t)) (slots (now (s .args .line))) (s .args .idx) n (spotOf (s .args .entry))
+by-neighbour s n = fromNeighbour (now (s .args .t)) (slots (s .args .shape) (now (s .args .line))) (s .args .idx) n (spotOf (s .args .entry))
 
 enum-known-previous : tie.Need-enum-known-previous
 enum-known-previous c = search needs

@@ -18,7 +18,7 @@ returns : tie.Need-returns
 returns c =
     let at-test = c .before .before .before .before in
     let a = at-test .before .before .before .args in
-    finished-up (a .d) (a .limit) (a .line .now) (sym (at-test .before .is-forward .ensures) ∙ at-test .if1 .taken) (c .before .before .settle-up .ensures)
+    finished-up (a .d) (a .limit) (a .shape) (a .line .now) (sym (at-test .before .is-forward .ensures) ∙ at-test .if1 .taken) (c .before .before .settle-up .ensures)
 
 settle-down-requires : tie.Need-settle-down-requires
 settle-down-requires c κs = search needs
@@ -30,7 +30,7 @@ returns-2 : tie.Need-returns-2
 returns-2 c =
     let at-test = c .before .before .before .before in
     let a = at-test .before .before .before .args in
-    finished-down (a .d) (a .limit) (a .line .now) (sym (at-test .before .is-forward .ensures) ∙ at-test .if1 .left) (c .before .before .settle-down .ensures)
+    finished-down (a .d) (a .limit) (a .shape) (a .line .now) (sym (at-test .before .is-forward .ensures) ∙ at-test .if1 .left) (c .before .before .settle-down .ensures)
 
 pub finish-line-spec : {M : Type 1} → statement M
 finish-line-spec =

@@ -1,29 +1,24 @@
 -- What is left to do on the line, the first i slots from the last down, is the whole job. Assumes nothing.
-use mathlib.Core.Path.{_≡_, refl, ap}
-use Prim.Native.Nat.{ℕ, _≤_}
+use mathlib.Core.Path.{_≡_, refl}
+use Prim.Native.Nat.{_≤_}
 use native.Mathlib.Omega.{arith}
 use borrow.Author.Needs.{needs}
 use lib.ListN.{length}
-use Rattle.slots.specs.Line.{count, slots}
+use Rattle.slots.specs.Line.{slots}
 use Rattle.finish.specs.Finish.{settledDown}
 use Rattle.finish.proofs.SettleLaws.{down-done, down-more}
 use Rattle.finish.proofs.finishing.settle_down.Statement.{statement}
 use Rattle.finish.proofs.finishing.settle_down.Tie as tie
 
 abbrev Inv-loop : tie.InvT-loop
-Inv-loop line₀ d limit i₀ line i =
-    (i ≤ count line₀) × (length line ≡ length line₀) × (settledDown d limit (slots line) i ≡ settledDown d limit (slots line₀) (count line₀))
+Inv-loop line₀ shape d limit i₀ line i =
+    (i ≤ shape .count) × (length line ≡ length line₀) × (settledDown d limit (slots shape line) i ≡ settledDown d limit (slots shape line₀) (shape .count))
 
 abbrev μ-loop : tie.MeasureT-loop
-μ-loop line₀ d limit i₀ line i = i
-
-slot-count-requires : tie.Need-slot-count-requires Inv-loop μ-loop
-slot-count-requires c κs = search needs
+μ-loop line₀ shape d limit i₀ line i = i
 
 loop-holds : tie.Need-loop-holds Inv-loop μ-loop
-loop-holds c =
-    let a = c .before .before .before .args in
-    (omega arith, refl, ap (λ (i : ℕ). settledDown (a .d) (a .limit) (slots (a .line .now)) i) (c .slot-count .ensures))
+loop-holds c = (omega arith, refl, refl)
 
 sub-i : tie.Need-sub-i Inv-loop μ-loop
 sub-i c = search needs
@@ -37,8 +32,8 @@ loop-less c = search needs
 loop-again : tie.Need-loop-again Inv-loop μ-loop
 loop-again c =
     let at-loop = c .before .before .before .before .before .loop in
-    let a = c .before .before .before .before .before .before .before .before .before .args in
-    (omega arith, omega arith, down-more (a .d) (a .limit) (slots (at-loop .line)) (at-loop .i) (omega arith) (at-loop .inv .2) (c .before .before .settle-slot .ensures))
+    let a = c .before .before .before .before .before .before .before .args in
+    (omega arith, omega arith, down-more (a .d) (a .limit) (slots (a .shape) (at-loop .line)) (at-loop .i) (omega arith) (at-loop .inv .2) (c .before .before .settle-slot .ensures))
 
 same-length : tie.Need-same-length Inv-loop μ-loop
 same-length c = search needs
@@ -46,8 +41,8 @@ same-length c = search needs
 returns : tie.Need-returns Inv-loop μ-loop
 returns c =
     let at-loop = c .before .loop in
-    let a = c .before .before .before .before .before .args in
-    down-done (a .d) (a .limit) (slots (at-loop .line)) (at-loop .i) (omega arith) (at-loop .inv .2)
+    let a = c .before .before .before .args in
+    down-done (a .d) (a .limit) (slots (a .shape) (at-loop .line)) (at-loop .i) (omega arith) (at-loop .inv .2)
 
 pub settle-down-spec : {M : Type 1} → statement M
 settle-down-spec =
@@ -55,7 +50,6 @@ settle-down-spec =
     (tie.spec
     Inv-loop
     μ-loop
-    slot-count-requires
     loop-holds
     sub-i
     settle-slot-requires

@@ -4,25 +4,22 @@ use Prim.Native.Nat.{ℕ, _-_, _≤_}
 use native.Mathlib.Omega.{arith}
 use borrow.Author.Needs.{needs}
 use lib.ListN.{length}
-use Rattle.slots.specs.Line.{count, slots}
+use Rattle.slots.specs.Line.{slots}
 use Rattle.finish.specs.Finish.{settledUp}
 use Rattle.finish.proofs.SettleLaws.{up-more}
 use Rattle.finish.proofs.finishing.settle_up.Statement.{statement}
 use Rattle.finish.proofs.finishing.settle_up.Tie as tie
 
 abbrev Inv-loop : tie.InvT-loop
-Inv-loop line₀ d limit n i₀ line i =
-    (i ≤ n) × (n ≡ count line₀) × (length line ≡ length line₀) × (slots line ≡ settledUp d limit (slots line₀) i)
+Inv-loop line₀ shape d limit n i₀ line i =
+    (i ≤ n) × (n ≡ shape .count) × (length line ≡ length line₀) × (slots shape line ≡ settledUp d limit (slots shape line₀) i)
 
 abbrev μ-loop : tie.MeasureT-loop
-μ-loop line₀ d limit n i₀ line i = n - i
-
-slot-count-requires : tie.Need-slot-count-requires Inv-loop μ-loop
-slot-count-requires c κs = search needs
+μ-loop line₀ shape d limit n i₀ line i = n - i
 
 loop-holds : tie.Need-loop-holds Inv-loop μ-loop
 unfolding settledUp
-loop-holds c = (omega arith, c .slot-count .ensures, refl, refl)
+loop-holds c = (omega arith, refl, refl, refl)
 
 settle-slot-requires : tie.Need-settle-slot-requires Inv-loop μ-loop
 settle-slot-requires c κs = search needs
@@ -36,8 +33,8 @@ loop-less c = search needs
 loop-again : tie.Need-loop-again Inv-loop μ-loop
 loop-again c =
     let at-loop = c .before .before .before .before .before .loop in
-    let a = c .before .before .before .before .before .before .before .before .before .args in
-    (omega arith, at-loop .inv .1, omega arith, up-more (a .d) (a .limit) (slots (a .line .now)) (at-loop .i) (at-loop .inv .3) (c .before .before .settle-slot .ensures))
+    let a = c .before .before .before .before .before .before .before .args in
+    (omega arith, at-loop .inv .1, omega arith, up-more (a .d) (a .limit) (slots (a .shape) (a .line .now)) (at-loop .i) (at-loop .inv .3) (c .before .before .settle-slot .ensures))
 
 same-length : tie.Need-same-length Inv-loop μ-loop
 same-length c = search needs
@@ -45,9 +42,9 @@ same-length c = search needs
 returns : tie.Need-returns Inv-loop μ-loop
 returns c =
     let at-loop = c .before .loop in
-    let a = c .before .before .before .before .before .args in
-    let all : at-loop .i ≡ count (a .line .now) = omega arith in
-    at-loop .inv .3 ∙ ap (λ (i : ℕ). settledUp (a .d) (a .limit) (slots (a .line .now)) i) all
+    let a = c .before .before .before .args in
+    let all : at-loop .i ≡ a .shape .count = omega arith in
+    at-loop .inv .3 ∙ ap (λ (i : ℕ). settledUp (a .d) (a .limit) (slots (a .shape) (a .line .now)) i) all
 
 pub settle-up-spec : {M : Type 1} → statement M
 settle-up-spec =
@@ -55,7 +52,6 @@ settle-up-spec =
     (tie.spec
     Inv-loop
     μ-loop
-    slot-count-requires
     loop-holds
     settle-slot-requires
     add-i

@@ -1,6 +1,6 @@
 -- Each type has its own return; any but 1 and 2 leaves the line as it was. Assumes nothing.
 use mathlib.Core.Path.{_∙_}
-use Rattle.slots.specs.Line.{slots}
+use Rattle.slots.specs.Line.{shapeWith, slots}
 use Rattle.finish.proofs.JoinLaws.{joined-other-type}
 use borrow.Author.Needs.{needs}
 use Rattle.finish.proofs.join.join.Statement.{statement}
@@ -34,7 +34,7 @@ returns-3 : tie.Need-returns-3
 returns-3 c =
     let a = c .before .before .before .before .before .args in
     let type-is = c .before .before .get-byte .ensures in
-    joined-other-type (a .d) (slots (a .line .now)) (a .i) (a .j) (λ e. c .before .if1 .left (type-is ∙ e)) (λ e. c .if2 .left (type-is ∙ e))
+    joined-other-type (a .d) (slots (shapeWith (a .size) (a .n)) (a .line .now)) (a .i) (a .j) (λ e. c .before .if1 .left (type-is ∙ e)) (λ e. c .if2 .left (type-is ∙ e))
 
 pub join-spec : {M : Type 1} → statement M
 join-spec =

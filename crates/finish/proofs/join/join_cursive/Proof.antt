@@ -27,7 +27,7 @@ returns : tie.Need-returns
 returns c =
     let read = c .before .before .before .before .before in
     let a = read .before .before .before .before .before .before .args in
-    joined-cursive (a .d) (slots (a .line .now)) (a .i) (a .j) (read .before .before .before .before .before .before .pre .2) (read .before .before .before .before .cross-axis .ensures)
+    joined-cursive (a .d) (slots (a .shape) (a .line .now)) (a .i) (a .j) (read .before .before .before .before .before .before .pre .2) (read .before .before .before .before .cross-axis .ensures)
     (read .before .before .get .ensures) (read .get2 .ensures) (c .before .before .before .sat-add .ensures) (c .before .before .set .ensures)
 
 pub join-cursive-spec : {M : Type 1} → statement M

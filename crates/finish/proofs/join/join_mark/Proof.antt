@@ -33,7 +33,7 @@ returns c =
     let from-x = from-y .before .before in
     let entry = from-x .before .before .before in
     let a = entry .args in
-    joined-mark (a .d) (slots (a .line .now)) (a .i) (a .j) (omega (arith, entry .pre .0, length-slots (a .line .now))) (entry .pre .2) (from-x .mark-from .ensures) (from-y .mark-from2 .ensures) (at-walk .walk .ensures)
+    joined-mark (a .d) (slots (a .shape) (a .line .now)) (a .i) (a .j) (omega (arith, entry .pre .0, length-slots (a .shape) (a .line .now))) (entry .pre .2) (from-x .mark-from .ensures) (from-y .mark-from2 .ensures) (at-walk .walk .ensures)
     (set-x .set .ensures) (c .before .before .set2 .ensures)
 
 pub join-mark-spec : {M : Type 1} → statement M

@@ -15,13 +15,13 @@ use Rattle.finish.proofs.walk.step_all.Statement.{statement}
 use Rattle.finish.proofs.walk.step_all.Tie as tie
 
 abbrev Inv-loop : tie.InvT-loop
-Inv-loop part n subtract x₀ y₀ k₀ x y k =
-    (k ≤ n) × (x < 4294967296) × (y < 4294967296)
-    × (unlifted x ≡ stepwise (stepBy subtract) (unlifted x₀) (take k (advances X (slots part))))
-    × (unlifted y ≡ stepwise (stepBy subtract) (unlifted y₀) (take k (advances Y (slots part))))
+Inv-loop part shape subtract n x₀ y₀ k₀ x y k =
+    (n ≡ shape .count) × (k ≤ n) × (x < 4294967296) × (y < 4294967296)
+    × (unlifted x ≡ stepwise (stepBy subtract) (unlifted x₀) (take k (advances X (slots shape part))))
+    × (unlifted y ≡ stepwise (stepBy subtract) (unlifted y₀) (take k (advances Y (slots shape part))))
 
 abbrev μ-loop : tie.MeasureT-loop
-μ-loop part n subtract x₀ y₀ k₀ x y k = n - k
+μ-loop part shape subtract n x₀ y₀ k₀ x y k = n - k
 
 lift-requires : tie.Need-lift-requires Inv-loop μ-loop
 lift-requires c κs = search needs
@@ -31,7 +31,7 @@ lift-requires-2 c κs = search needs
 
 loop-holds : tie.Need-loop-holds Inv-loop μ-loop
 unfolding stepwise
-loop-holds c = (omega arith, c .before .lift .ensures .1, c .lift2 .ensures .1, refl, refl)
+loop-holds c = (refl, omega arith, c .before .lift .ensures .1, c .lift2 .ensures .1, refl, refl)
 
 get-requires : tie.Need-get-requires Inv-loop μ-loop
 get-requires c κs = search needs
@@ -57,16 +57,17 @@ loop-again c =
     let a = at-loop .before .before .before .before .args in
     let from-x = at-loop .before .before .lift .result in
     let from-y = at-loop .before .lift2 .result in
-    let ss = slots (a .part .now) in
+    let ss = slots (a .shape) (a .part .now) in
     let f = stepBy (a .subtract) in
     let k = at-loop .loop .k in
     let step-x = c .before .before .step .ensures in
     let step-y = c .step2 .ensures in (
+      at-loop .loop .inv .0,
       omega arith,
       step-x .1,
       step-y .1,
-      steps-more f (unlifted from-x) X ss k (omega (arith, length-slots (a .part .now))) (at-loop .loop .inv .3) (c .before .before .before .get .ensures) (step-x .0),
-      steps-more f (unlifted from-y) Y ss k (omega (arith, length-slots (a .part .now))) (at-loop .loop .inv .4) (c .before .get2 .ensures) (step-y .0),
+      steps-more f (unlifted from-x) X ss k (omega (arith, length-slots (a .shape) (a .part .now))) (at-loop .loop .inv .4) (c .before .before .before .get .ensures) (step-x .0),
+      steps-more f (unlifted from-y) Y ss k (omega (arith, length-slots (a .shape) (a .part .now))) (at-loop .loop .inv .5) (c .before .get2 .ensures) (step-y .0),
     )
 
 unlift-requires : tie.Need-unlift-requires Inv-loop μ-loop
@@ -81,12 +82,12 @@ returns c =
     let a = at-loop .before .before .before .before .args in
     let from-x = at-loop .before .before .lift in
     let from-y = at-loop .before .lift2 in
-    let ss = slots (a .part .now) in
+    let ss = slots (a .shape) (a .part .now) in
     let f = stepBy (a .subtract) in
     let k = at-loop .loop .k in (
-      c .before .unlift .ensures ∙ steps-all f (unlifted (from-x .result)) X ss k (omega (arith, length-slots (a .part .now))) (at-loop .loop .inv .3)
+      c .before .unlift .ensures ∙ steps-all f (unlifted (from-x .result)) X ss k (omega (arith, length-slots (a .shape) (a .part .now))) (at-loop .loop .inv .4)
           ∙ ap (λ z. stepwise f z (advances X ss)) (from-x .ensures .0),
-      c .unlift2 .ensures ∙ steps-all f (unlifted (from-y .result)) Y ss k (omega (arith, length-slots (a .part .now))) (at-loop .loop .inv .4)
+      c .unlift2 .ensures ∙ steps-all f (unlifted (from-y .result)) Y ss k (omega (arith, length-slots (a .shape) (a .part .now))) (at-loop .loop .inv .5)
           ∙ ap (λ z. stepwise f z (advances Y ss)) (from-y .ensures .0),
     )
 

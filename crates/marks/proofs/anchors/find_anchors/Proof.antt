@@ -38,7 +38,7 @@ returns c =
     let r = n .before .before in
     let q = r .before .before in
     let a = q .before .before .before .args in
-    let ss = slots (now (a .line)) in (
+    let ss = slots (a .shape) (now (a .line)) in (
       c .no-rows .ensures .0
           ∙ anchors-rowless (a .kind) (now (a .t)) (a .k) (a .m) (slot ss (a .idx)) (slot ss (a .b)) (now (q .row-table .result)) (q .row-table .ensures)
           (r .before .read-u16 .result) (r .before .read-u16 .ensures .0) (r .rows-of .result) (r .rows-of .ensures) (n .n .given .0 .0) (n .n .given .1) (c .before .if1 .taken),
@@ -77,7 +77,7 @@ returns-2 c =
     let r = c .before .before in
     let q = r .before .before in
     let a = q .before .before .before .args in
-    let ss = slots (now (a .line)) in (
+    let ss = slots (a .shape) (now (a .line)) in (
       anchors-cut (a .kind) (now (a .t)) (a .k) (a .m) (slot ss (a .idx)) (slot ss (a .b)) (now (q .row-table .result)) (q .row-table .ensures)
           (r .before .read-u16 .result) (r .before .read-u16 .ensures .0) (r .rows-of .result) (r .rows-of .ensures) (c .enum-told .given .1),
       tt,
@@ -90,7 +90,7 @@ returns-3 c =
     let r = n .before .before in
     let q = r .before .before in
     let a = q .before .before .before .args in
-    let ss = slots (now (a .line)) in (
+    let ss = slots (a .shape) (now (a .line)) in (
       c .with-mark .ensures .0
           ∙ anchors-with (a .kind) (now (a .t)) (a .k) (a .m) (slot ss (a .idx)) (slot ss (a .b)) (now (q .row-table .result)) (q .row-table .ensures)
           (r .before .read-u16 .result) (r .before .read-u16 .ensures .0) (r .rows-of .result) (r .rows-of .ensures) (n .n .given .0 .0) (n .n .given .1) (f .before .if1 .left)

@@ -23,7 +23,7 @@ returns c = search needs
 returns-2 : tie.Need-returns-2
 returns-2 c =
     let a = c .before .before .before .before .args in
-    let ss = slots (now (a .line)) in
+    let ss = slots (a .shape) (now (a .line)) in
     c .component-index .ensures .0 ∙ sym (ap (λ (x : Kind). rowFor x (a .k) (a .n) (slot ss (a .idx)) (slot ss (a .b))) (c .before .enum-told2 .given .1))
 
 pub row-for-spec : {M : Type 1} → statement M

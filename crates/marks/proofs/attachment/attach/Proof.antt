@@ -18,11 +18,11 @@ use Rattle.marks.proofs.attachment.attach.Tie as tie
 as-planned : (c : tie.After-decide)
     → meant (c .decide .result)
     ≡ planOf (c .before .before .before .before .before .args .kind) (cross (c .before .before .before .before .before .args .d))
-    (now (c .before .before .before .before .before .args .t)) (slots (now (c .before .before .before .before .before .args .line)))
+    (now (c .before .before .before .before .before .args .t)) (slots (c .before .before .before .before .before .args .shape) (now (c .before .before .before .before .before .args .line)))
     (c .before .before .before .before .before .args .idx)
 as-planned c =
     let a = c .before .before .before .before .before .args in
-    c .decide .ensures .0 ∙ ap (λ (x : Axis). planOf (a .kind) x (now (a .t)) (slots (now (a .line))) (a .idx)) (c .before .cross-axis .ensures)
+    c .decide .ensures .0 ∙ ap (λ (x : Axis). planOf (a .kind) x (now (a .t)) (slots (a .shape) (now (a .line))) (a .idx)) (c .before .cross-axis .ensures)
 
 cross-axis-requires : tie.Need-cross-axis-requires
 cross-axis-requires c κs = search needs
@@ -62,7 +62,7 @@ returns c =
     let s = k .before .before in
     let a = s .before .before .before .before .before .args in
     effect-far (a .s) (a .u) (a .d) (a .idx) (sym (ap meant (k .decision2 .given .1)) ∙ as-planned s) (i .if1 .taken) (c .passed .ensures)
-    (cleared-is (slots (now (a .line))) (a .idx) (c .before .before .before .set-chain .ensures))
+    (cleared-is (slots (a .shape) (now (a .line))) (a .idx) (c .before .before .before .set-chain .ensures))
 
 hang-requires : tie.Need-hang-requires
 hang-requires c κs =

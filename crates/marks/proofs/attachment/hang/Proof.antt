@@ -47,7 +47,7 @@ set-chain-requires c κs =
     (search needs, chain-fits (a .idx) (a .b) (omega arith) (omega arith))
 
 set-byte-requires : tie.Need-set-byte-requires
-set-byte-requires c κs = search needs
+set-byte-requires c κs = let h = c .before .before .before .before .before .before .before .before .before .before .before .before .before .before .before .before .before .before .before .pre .0 in search needs
 
 same-length : tie.Need-same-length
 same-length c = search needs
@@ -63,10 +63,10 @@ returns c =
     let axes = sum .before .before in
     let a = axes .before .before .before .args in
     let l = now (a .line) in
-    hung-by (a .s) (a .u) (a .d) (a .idx) (a .b) (spotOf (a .base)) (spotOf (a .mark)) (val (a .walk)) (slots l) (omega (arith, length-slots l))
+    hung-by (a .s) (a .u) (a .d) (a .idx) (a .b) (spotOf (a .base)) (spotOf (a .mark)) (val (a .walk)) (slots (a .shape) l) (omega (arith, length-slots (a .shape) l, axes .before .before .before .pre .0 .below))
     (axes .before .main-axis .result) (axes .cross-axis .result) (val (along .between-anchors2 .result)) (val (sum .before .between-anchors .result))
     (val (sum .sat-add .result)) (val (4294967296 - (a .idx - a .b)))
-    (slots (b1 .set .last .0)) (slots (b2 .set2 .last .0)) (slots (b3 .set-chain .last .0)) (slots (b4 .set-byte .last .0))
+    (slots (a .shape) (b1 .set .last .0)) (slots (a .shape) (b2 .set2 .last .0)) (slots (a .shape) (b3 .set-chain .last .0)) (slots (a .shape) (b4 .set-byte .last .0))
     (axes .before .main-axis .ensures) (axes .cross-axis .ensures) (along .between-anchors2 .ensures) (sum .before .between-anchors .ensures)
     (sum .sat-add .ensures) (chain-back (a .idx) (a .b) (omega arith) (omega arith))
     (b1 .set .ensures) (b2 .set2 .ensures) (b3 .set-chain .ensures) (b4 .set-byte .ensures)

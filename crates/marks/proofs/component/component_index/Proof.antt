@@ -17,7 +17,7 @@ returns : tie.Need-returns
 returns c =
     let g = c .before in
     let a = g .before .before .args in
-    let ss = slots (now (a .line)) in
+    let ss = slots (a .shape) (now (a .line)) in
     component-none (a .n) (slot ss (a .idx)) (slot ss (a .b)) (omega arith) (g .get-byte .ensures) (c .if1 .taken)
 
 get-byte-requires-2 : tie.Need-get-byte-requires-2
@@ -30,7 +30,7 @@ returns-2 : tie.Need-returns-2
 returns-2 c =
     let g = c .before .before .before in
     let a = g .before .before .args in
-    let ss = slots (now (a .line)) in
+    let ss = slots (a .shape) (now (a .line)) in
     component-other (a .n) (slot ss (a .idx)) (slot ss (a .b)) (omega arith) (g .get-byte .ensures) (c .before .before .if1 .left)
     (c .before .get-byte2 .ensures) (c .if2 .taken)
 
@@ -48,7 +48,7 @@ returns-3 c =
     let f = c .before .before in
     let g = f .before .before .before in
     let a = g .before .before .args in
-    let ss = slots (now (a .line)) in
+    let ss = slots (a .shape) (now (a .line)) in
     component-zero (a .n) (slot ss (a .idx)) (slot ss (a .b)) (omega arith) (g .get-byte .ensures) (f .before .before .if1 .left)
     (f .before .get-byte2 .ensures) (f .if2 .left) (c .before .get-byte3 .ensures) (c .if3 .taken)
 
@@ -61,7 +61,7 @@ returns-4 c =
     let f = e .before .before in
     let g = f .before .before .before in
     let a = g .before .before .args in
-    let ss = slots (now (a .line)) in
+    let ss = slots (a .shape) (now (a .line)) in
     component-past (a .n) (slot ss (a .idx)) (slot ss (a .b)) (omega arith) (g .get-byte .ensures) (f .before .before .if1 .left)
     (f .before .get-byte2 .ensures) (f .if2 .left) (e .before .get-byte3 .ensures) (e .if3 .left) (c .if4 .taken)
 
@@ -74,7 +74,7 @@ returns-5 c =
     let f = e .before .before in
     let g = f .before .before .before in
     let a = g .before .before .args in
-    let ss = slots (now (a .line)) in
+    let ss = slots (a .shape) (now (a .line)) in
     component-own (a .n) (slot ss (a .idx)) (slot ss (a .b)) (omega arith) (g .get-byte .ensures) (f .before .before .if1 .left)
     (f .before .get-byte2 .ensures) (f .if2 .left) (e .before .get-byte3 .ensures) (e .if3 .left) (c .if4 .left)
 

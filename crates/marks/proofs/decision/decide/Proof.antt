@@ -31,7 +31,7 @@ returns c =
     let i = k .before .before in
     let g = i .before in
     let a = g .before .before .before .args in (
-      plan-no-bases (a .kind) (a .a) (now (a .t)) (slots (now (a .line))) (a .idx) (g .glyph .result) (g .glyph .ensures .0) (i .mark-index .result) (i .mark-index .ensures)
+      plan-no-bases (a .kind) (a .a) (now (a .t)) (slots (a .shape) (now (a .line))) (a .idx) (g .glyph .result) (g .glyph .ensures .0) (i .mark-index .result) (i .mark-index .ensures)
           (k .m .given .0 .0) (k .m .given .1) (c .before .read-u16 .result) (c .before .read-u16 .ensures .0) (c .if1 .taken),
       tt,
     )
@@ -47,7 +47,7 @@ returns-2 c =
     let i = c .before .before in
     let g = i .before in
     let a = g .before .before .before .args in (
-      plan-uncovered (a .kind) (a .a) (now (a .t)) (slots (now (a .line))) (a .idx) (g .glyph .result) (g .glyph .ensures .0) (i .mark-index .result) (i .mark-index .ensures)
+      plan-uncovered (a .kind) (a .a) (now (a .t)) (slots (a .shape) (now (a .line))) (a .idx) (g .glyph .result) (g .glyph .ensures .0) (i .mark-index .result) (i .mark-index .ensures)
           (c .enum-told .given .1),
       tt,
     )
@@ -60,7 +60,7 @@ returns-3 c =
     let g = i .before in
     let a = g .before .before .before .args in (
       c .with-search .ensures .0
-          ∙ plan-search (a .kind) (a .a) (now (a .t)) (slots (now (a .line))) (a .idx) (g .glyph .result) (g .glyph .ensures .0) (i .mark-index .result) (i .mark-index .ensures)
+          ∙ plan-search (a .kind) (a .a) (now (a .t)) (slots (a .shape) (now (a .line))) (a .idx) (g .glyph .result) (g .glyph .ensures .0) (i .mark-index .result) (i .mark-index .ensures)
           (k .m .given .0 .0) (k .m .given .1) (f .before .read-u16 .result) (f .before .read-u16 .ensures .0) (f .if1 .left)
           (placeOf (c .before .find .result)) (c .before .find .ensures .0),
       c .with-search .ensures .1,

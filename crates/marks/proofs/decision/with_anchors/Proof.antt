@@ -41,20 +41,20 @@ returns c =
     let b = k .anchors .given .0 in (
       c .with-walk .ensures .0
           ∙ ap (withWalk (a .b) (spotOf (b .0)) (spotOf (b .1 .0))) (c .before .cross-walk .ensures)
-          ∙ sym (ap (λ (x : Found). withAnchors (a .a) (slots (now (a .line))) (a .idx) (a .b) (anchorsOf x)) (k .anchors .given .1)),
+          ∙ sym (ap (λ (x : Found). withAnchors (a .a) (slots (a .shape) (now (a .line))) (a .idx) (a .b) (anchorsOf x)) (k .anchors .given .1)),
       c .with-walk .ensures .1,
     )
 
 returns-2 : tie.Need-returns-2
 returns-2 c =
     let a = c .before .before .before .args in
-    (sym (ap (λ (x : Found). withAnchors (a .a) (slots (now (a .line))) (a .idx) (a .b) (anchorsOf x)) (c .enum-told .given .1)), tt)
+    (sym (ap (λ (x : Found). withAnchors (a .a) (slots (a .shape) (now (a .line))) (a .idx) (a .b) (anchorsOf x)) (c .enum-told .given .1)), tt)
 
 returns-3 : tie.Need-returns-3
 returns-3 c =
     let a = c .before .before .before .before .args in (
       ap stop (c .concat-from .ensures)
-          ∙ sym (ap (λ (x : Found). withAnchors (a .a) (slots (now (a .line))) (a .idx) (a .b) (anchorsOf x)) (c .before .enum-told2 .given .1)),
+          ∙ sym (ap (λ (x : Found). withAnchors (a .a) (slots (a .shape) (now (a .line))) (a .idx) (a .b) (anchorsOf x)) (c .before .enum-told2 .given .1)),
       tt,
     )
 

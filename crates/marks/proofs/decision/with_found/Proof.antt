@@ -29,7 +29,7 @@ returns : tie.Need-returns
 returns c =
     let k = c .before .before .before in
     let a = k .before .before .before .before .args in
-    let ss = slots (now (a .line)) in (
+    let ss = slots (a .shape) (now (a .line)) in (
       c .with-anchors .ensures .0
           ∙ ap (withAnchors (a .a) ss (a .idx) (a .b)) (c .before .find-anchors .ensures .0)
           ∙ sym (ap (withFound (a .kind) (a .a) (now (a .t)) ss (a .idx) (a .m) (a .b)) (k .covered .given .1)),
@@ -40,7 +40,7 @@ returns-2 : tie.Need-returns-2
 returns-2 c =
     let a = c .before .before .before .before .before .args in (
       ap stop (c .concat-from .ensures)
-          ∙ sym (ap (withFound (a .kind) (a .a) (now (a .t)) (slots (now (a .line))) (a .idx) (a .m) (a .b)) (c .before .enum-told .given .1)),
+          ∙ sym (ap (withFound (a .kind) (a .a) (now (a .t)) (slots (a .shape) (now (a .line))) (a .idx) (a .m) (a .b)) (c .before .enum-told .given .1)),
       tt,
     )
 

@@ -43,7 +43,7 @@ returns : tie.Need-returns
 returns c =
     let k = c .before .before .before .before in
     let a = k .before .before .before .before .args in
-    let ss = slots (now (a .line)) in (
+    let ss = slots (a .shape) (now (a .line)) in (
       c .with-found .ensures .0
           ∙ ap (withFound (a .kind) (a .a) (now (a .t)) ss (a .idx) (a .m) (k .place .given .0 .0))
           (c .before .base-index .ensures ∙ ap (baseIndex (now (a .t))) (c .before .before .glyph .ensures .0))
@@ -55,7 +55,7 @@ returns-2 : tie.Need-returns-2
 returns-2 c =
     let a = c .before .before .before .before .before .args in (
       ap stop (c .concat-from .ensures)
-          ∙ sym (ap (λ (p : Place). withSearch (a .kind) (a .a) (now (a .t)) (slots (now (a .line))) (a .idx) (a .m) (placeOf p)) (c .before .enum-told .given .1)),
+          ∙ sym (ap (λ (p : Place). withSearch (a .kind) (a .a) (now (a .t)) (slots (a .shape) (now (a .line))) (a .idx) (a .m) (placeOf p)) (c .before .enum-told .given .1)),
       tt,
     )
 

@@ -14,7 +14,7 @@ returns : tie.Need-returns
 returns c =
     let b = c .before in
     let a = b .before .before .args in
-    let ss = slots (now (a .line)) in
+    let ss = slots (a .shape) (now (a .line)) in
     goes-mark (slot ss (a .p)) (slot ss (a .i)) (b .has-flag .ensures) (c .if1 .taken)
 
 has-flag-requires-2 : tie.Need-has-flag-requires-2
@@ -24,7 +24,7 @@ returns-2 : tie.Need-returns-2
 returns-2 c =
     let b = c .before .before .before in
     let a = b .before .before .args in
-    let ss = slots (now (a .line)) in
+    let ss = slots (a .shape) (now (a .line)) in
     goes-single (slot ss (a .p)) (slot ss (a .i)) (b .has-flag .ensures) (c .before .before .if1 .left)
     (c .before .has-flag2 .ensures) (not-true _ (c .if2 .taken))
 
@@ -39,7 +39,7 @@ returns-3 c =
     let d = c .before .before .before in
     let b = d .before .before .before in
     let a = b .before .before .args in
-    let ss = slots (now (a .line)) in
+    let ss = slots (a .shape) (now (a .line)) in
     goes-other (slot ss (a .p)) (slot ss (a .i)) (b .has-flag .ensures) (d .before .before .if1 .left)
     (d .before .has-flag2 .ensures) (not-false _ (d .if2 .left))
     (c .before .before .get-byte .ensures) (c .before .get-byte2 .ensures) (c .if3 .taken)
@@ -65,7 +65,7 @@ returns-4 c =
     let d = e .before .before .before in
     let b = d .before .before .before in
     let a = b .before .before .args in
-    let ss = slots (now (a .line)) in
+    let ss = slots (a .shape) (now (a .line)) in
     goes-next (slot ss (a .p)) (slot ss (a .i)) (b .has-flag .ensures) (d .before .before .if1 .left)
     (d .before .has-flag2 .ensures) (not-false _ (d .if2 .left))
     (e .before .before .get-byte .ensures) (e .before .get-byte2 .ensures) (e .if3 .left)

@@ -16,13 +16,13 @@ returns : tie.Need-returns
 returns c =
     let b = c .before .before in
     let a = b .before .before .args in
-    first-multiplied (slot (slots (now (a .line))) (a .i)) (b .has-flag .result) (b .has-flag .ensures) (c .before .if1 .taken) (c .get-byte .result) (c .get-byte .ensures)
+    first-multiplied (slot (slots (a .shape) (now (a .line))) (a .i)) (b .has-flag .result) (b .has-flag .ensures) (c .before .if1 .taken) (c .get-byte .result) (c .get-byte .ensures)
 
 returns-2 : tie.Need-returns-2
 returns-2 c =
     let b = c .before in
     let a = b .before .before .args in
-    first-single (slot (slots (now (a .line))) (a .i)) (b .has-flag .result) (b .has-flag .ensures) (c .if1 .left)
+    first-single (slot (slots (a .shape) (now (a .line))) (a .i)) (b .has-flag .result) (b .has-flag .ensures) (c .if1 .left)
 
 pub is-first-spec : {M : Type 1} → statement M
 is-first-spec = tie.close (tie.spec has-flag-requires get-byte-requires returns returns-2)

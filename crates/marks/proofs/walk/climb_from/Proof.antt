@@ -21,14 +21,14 @@ returns c =
     let b = c .before .before in
     let g = b .before in
     let a = g .before .before .args in
-    c .parent-of .ensures ∙ climb-cursive (slots (now (a .line))) (a .i) (g .get-byte .result) (g .get-byte .ensures) (sym (b .cursive-bit .ensures) ∙ c .before .if1 .taken)
+    c .parent-of .ensures ∙ climb-cursive (slots (a .shape) (now (a .line))) (a .i) (g .get-byte .result) (g .get-byte .ensures) (sym (b .cursive-bit .ensures) ∙ c .before .if1 .taken)
 
 returns-2 : tie.Need-returns-2
 returns-2 c =
     let b = c .before in
     let g = b .before in
     let a = g .before .before .args in
-    climb-other (slots (now (a .line))) (a .i) (g .get-byte .result) (g .get-byte .ensures) (sym (b .cursive-bit .ensures) ∙ c .if1 .left)
+    climb-other (slots (a .shape) (now (a .line))) (a .i) (g .get-byte .result) (g .get-byte .ensures) (sym (b .cursive-bit .ensures) ∙ c .if1 .left)
 
 pub climb-from-spec : {M : Type 1} → statement M
 climb-from-spec = tie.close (tie.spec get-byte-requires cursive-bit-requires parent-of-requires returns returns-2)

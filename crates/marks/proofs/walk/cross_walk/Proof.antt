@@ -7,7 +7,7 @@ use native.Mathlib.Omega.{arith}
 use denote.Ref.{now}
 use Rattle.ints.specs.Saturating.{plus}
 use Rattle.ints.specs.Signed.{val}
-use Rattle.slots.specs.Line.{count, slot, slots}
+use Rattle.slots.specs.Line.{slot, slots}
 use Rattle.slots.specs.Fields.{offset}
 use Rattle.slots.specs.Parent.{byParent}
 use Rattle.slots.specs.declared.parent.Parent.{Parent}
@@ -20,33 +20,30 @@ use Rattle.marks.proofs.walk.cross_walk.Statement.{statement}
 use Rattle.marks.proofs.walk.cross_walk.Tie as tie
 
 abbrev Inv-loop : tie.InvT-loop
-Inv-loop line a i left₀ at₀ sum₀ left at sum = (at < count line) × (crossWalk a (slots line) i ≡ walkIn left a (slots line) at (val sum))
+Inv-loop line shape a i left₀ at₀ sum₀ left at sum = (at < shape .count) × (crossWalk a (slots shape line) i ≡ walkIn left a (slots shape line) at (val sum))
 
 abbrev μ-loop : tie.MeasureT-loop
-μ-loop line a i left₀ at₀ sum₀ left at sum = left
+μ-loop line shape a i left₀ at₀ sum₀ left at sum = left
 
 -- the whole answer, once code knows the parent that the walk climbs to: p
-turn : (f : tie.After-climb-from Inv-loop μ-loop) (p : Parent) → f .climb-from .result ≡ p → (let s = f .before .before in let a = s .before .before .before .before .args in
-    crossWalk (a .a) (slots (now (a .line))) (a .i) ≡ byParent p (some (val (s .loop .sum))) (some (val (s .loop .sum)))
-    (λ j. walkIn (s .loop .left - 1) (a .a) (slots (now (a .line))) j (plus (val (s .loop .sum)) (offset (a .a) (slot (slots (now (a .line))) j)))))
+turn : (f : tie.After-climb-from Inv-loop μ-loop) (p : Parent) → f .climb-from .result ≡ p → (let s = f .before .before in let a = s .before .before .before .args in
+    crossWalk (a .a) (slots (a .shape) (now (a .line))) (a .i) ≡ byParent p (some (val (s .loop .sum))) (some (val (s .loop .sum)))
+    (λ j. walkIn (s .loop .left - 1) (a .a) (slots (a .shape) (now (a .line))) j (plus (val (s .loop .sum)) (offset (a .a) (slot (slots (a .shape) (now (a .line))) j)))))
 turn f p e =
     let s = f .before .before in
-    let a = s .before .before .before .before .args in
+    let a = s .before .before .before .args in
     s .loop .inv .1
-    ∙ walk-turn (a .a) (slots (now (a .line))) (s .loop .left) (s .loop .at) (val (s .loop .sum)) (omega arith) p (sym (f .climb-from .ensures) ∙ e)
-
-slot-count-requires : tie.Need-slot-count-requires Inv-loop μ-loop
-slot-count-requires c κs = search needs
+    ∙ walk-turn (a .a) (slots (a .shape) (now (a .line))) (s .loop .left) (s .loop .at) (val (s .loop .sum)) (omega arith) p (sym (f .climb-from .ensures) ∙ e)
 
 get-requires : tie.Need-get-requires Inv-loop μ-loop
 get-requires c κs = search needs
 
 loop-holds : tie.Need-loop-holds Inv-loop μ-loop
 loop-holds c =
-    let a = c .before .before .before .args in
+    let a = c .before .before .args in
     let l = now (a .line) in (
       search needs,
-      walk-start (a .a) (slots l) (a .i) (c .before .slot-count .result) (val (c .get .result)) (c .before .slot-count .ensures ∙ sym (length-slots l)) (c .get .ensures),
+      walk-start (a .a) (slots (a .shape) l) (a .i) (a .shape .count) (val (c .get .result)) (sym (length-slots (a .shape) l)) (c .get .ensures),
     )
 
 climb-from-requires : tie.Need-climb-from-requires Inv-loop μ-loop
@@ -72,8 +69,9 @@ get-requires-2 c κs =
     let j = c .before in
     let f = j .before .before in
     let s = f .before .before in
-    let l = now (s .before .before .before .before .args .line) in
-    omega (arith, climb-in (slots l) (s .loop .at) (j .j .given .0 .0) (sym (f .climb-from .ensures) ∙ j .j .given .1), length-slots l)
+    let a = s .before .before .before .args in
+    let in-line : j .j .given .0 .0 < a .shape .count = omega (arith, climb-in (slots (a .shape) (now (a .line))) (s .loop .at) (j .j .given .0 .0) (sym (f .climb-from .ensures) ∙ j .j .given .1), length-slots (a .shape) (now (a .line))) in
+    record { fits = search needs; below = in-line }
 
 sat-add-requires : tie.Need-sat-add-requires Inv-loop μ-loop
 sat-add-requires c κs = search needs
@@ -89,19 +87,19 @@ loop-again c =
     let j = c .before .before .before in
     let f = j .before .before in
     let s = f .before .before in
-    let a = s .before .before .before .before .args in
+    let a = s .before .before .before .args in
     let l = now (a .line) in
     let to = j .j .given .0 .0 in (
-      omega (arith, climb-in (slots l) (s .loop .at) to (sym (f .climb-from .ensures) ∙ j .j .given .1), length-slots l),
+      omega (arith, climb-in (slots (a .shape) l) (s .loop .at) to (sym (f .climb-from .ensures) ∙ j .j .given .1), length-slots (a .shape) l),
       turn f (At to) (j .j .given .1)
-          ∙ ap (walkIn (s .loop .left - 1) (a .a) (slots l) to) (sym (c .sat-add .ensures ∙ ap (plus (val (s .loop .sum))) (c .before .get2 .ensures))),
+          ∙ ap (walkIn (s .loop .left - 1) (a .a) (slots (a .shape) l) to) (sym (c .sat-add .ensures ∙ ap (plus (val (s .loop .sum))) (c .before .get2 .ensures))),
     )
 
 returns-3 : tie.Need-returns-3 Inv-loop μ-loop
 returns-3 c =
     let s = c .before in
-    let a = s .before .before .before .before .args in
-    sym (s .loop .inv .1 ∙ walk-out (a .a) (slots (now (a .line))) (s .loop .left) (s .loop .at) (val (s .loop .sum)) (omega arith))
+    let a = s .before .before .before .args in
+    sym (s .loop .inv .1 ∙ walk-out (a .a) (slots (a .shape) (now (a .line))) (s .loop .left) (s .loop .at) (val (s .loop .sum)) (omega arith))
 
 pub cross-walk-spec : {M : Type 1} → statement M
 cross-walk-spec =
@@ -109,7 +107,6 @@ cross-walk-spec =
     (tie.spec
     Inv-loop
     μ-loop
-    slot-count-requires
     get-requires
     loop-holds
     climb-from-requires

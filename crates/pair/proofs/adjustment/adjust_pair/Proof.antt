@@ -8,7 +8,7 @@ use lib.Dec.{eqb}
 use lib.ListN.{drop, length, take}
 use borrow.Author.Needs.{needs}
 use denote.Ref.{now}
-use Rattle.slots.specs.Line.{count, slots}
+use Rattle.slots.specs.Line.{slots}
 use Rattle.tables.proofs.PartLaws.{to-end}
 use Rattle.answers.specs.Said.{ranges, said}
 use Rattle.pair.specs.Meant.{meant, Sound}
@@ -32,10 +32,10 @@ enum-known-decision-2 c = search needs
 inside : (c : tie.After-known-told2)
     → let s = c .before .before .before .before .before .before .before in
     let m = c .before in
-    Sound (now (s .args .t)) (count (now (s .args .line))) (s .args .idx) (Adjust (m .decision2 .given .0 .0) (m .decision2 .given .0 .1 .0) (m .decision2 .given .0 .1 .1 .0))
+    Sound (now (s .args .t)) (s .args .shape .count) (s .args .idx) (Adjust (m .decision2 .given .0 .0) (m .decision2 .given .0 .1 .0) (m .decision2 .given .0 .1 .1 .0))
 inside c =
     let s = c .before .before .before .before .before .before .before in
-    subst (Sound (now (s .args .t)) (count (now (s .args .line))) (s .args .idx)) (c .before .decision2 .given .1) (c .before .before .before .decide .ensures .1)
+    subst (Sound (now (s .args .t)) (s .args .shape .count) (s .args .idx)) (c .before .decision2 .given .1) (c .before .before .before .decide .ensures .1)
 
 sub-apply-both : tie.Need-sub-apply-both
 sub-apply-both c = omega (arith, inside (c .before) .0)
@@ -51,7 +51,7 @@ apply-both-requires c κs =
     let k = c .before .before in
     let s = k .before .before .before .before .before .before .before in
     let w = inside k in
-    (s .pre .0, w .1 .0, s .pre .1, s .pre .2, w .1 .1 .1)
+    (s .pre .0, w .1 .0, s .pre .1, s .pre .2, search needs)
 
 read-u16-requires : tie.Need-read-u16-requires
 read-u16-requires c κs =
@@ -69,7 +69,7 @@ returns c =
     let m = c .before in
     let k = m .before .before in
     let a = k .before .before .before .before .args in
-    let ss = slots (now (a .line)) in
+    let ss = slots (a .shape) (now (a .line)) in
     declines (a .s) (a .u) (a .d) (now (a .t)) (a .idx) ss (planOf (now (a .t)) ss (a .idx) (a .neighbour)) (ranges (m .decision .given .0 .0))
     (sym (ap (meant (now (a .t))) (m .decision .given .1)) ∙ k .decide .ensures .0)
 
@@ -84,13 +84,13 @@ returns-2 c =
     let k = m .before .before in
     let a = k .before .before .before .before .args in
     let t = now (a .t) in
-    let ss = slots (now (a .line)) in
+    let ss = slots (a .shape) (now (a .line)) in
     let off = m .decision2 .given .0 .0 in
     let at = m .decision2 .given .0 .1 .0 in
     let second = m .decision2 .given .0 .1 .1 .0 in
     adjusts (a .s) (a .u) (a .d) t (a .idx) ss (planOf t ss (a .idx) (a .neighbour)) (drop off t) (take (length t - off) (drop off t)) at second
     (sym (ap (meant t) (m .decision2 .given .1)) ∙ k .decide .ensures .0) (to-end t off)
-    (said (c .pair-answer .result)) (b .apply-both .result) (not (eqb (f .read-u16 .result) 0)) (slots (b .apply-both .last .0))
+    (said (c .pair-answer .result)) (b .apply-both .result) (not (eqb (f .read-u16 .result) 0)) (slots (a .shape) (b .apply-both .last .0))
     (c .pair-answer .ensures)
     (b .apply-both .ensures .1)
     (ap (λ (n : ℕ). not (eqb n 0)) (f .read-u16 .ensures .0))

@@ -57,8 +57,8 @@ start c = c .before .before .before .before .before .before .before .before .bef
 
 both : (c : tie.After-slice-known3)
     → let a = start c .args in
-    (slots (c .before .before .apply-value2 .last .0)
-    ≡ planned (a .s) (a .u) (a .d) (now (a .t)) (a .idx) (adjust (now (a .table)) (a .at) (a .second)) (slots (now (a .line))))
+    (slots (a .shape) (c .before .before .apply-value2 .last .0)
+    ≡ planned (a .s) (a .u) (a .d) (now (a .t)) (a .idx) (adjust (now (a .table)) (a .at) (a .second)) (slots (a .shape) (now (a .line))))
     × (c .before .before .before .before .before .before .before .before .apply-value .result || c .before .before .apply-value2 .result
     ≡ eitherWorked (a .d) (now (a .t)) (now (a .table)) (a .at))
 both c =
@@ -70,7 +70,7 @@ both c =
     let f₂ = r₁ .before .before in
     let f₁ = f₂ .before in
     let a = start c .args in
-    both-applied (a .s) (a .u) (a .d) (now (a .t)) (now (a .table)) (a .at) (a .idx) (a .second) (slots (now (a .line)))
+    both-applied (a .s) (a .u) (a .d) (now (a .t)) (now (a .table)) (a .at) (a .idx) (a .second) (slots (a .shape) (now (a .line)))
     (f₁ .read-u16 .ensures .0) (f₂ .read-u162 .ensures .0) (l .record-len .ensures .0) (r₁ .record-at .ensures .0) (r₂ .record-at2 .ensures .0)
     (v₁ .apply-value .ensures) (v₂ .apply-value2 .ensures)
 

@@ -28,7 +28,7 @@ returns c =
     let i = m .before .before in
     let g = i .before in
     let a = g .before .before .before .args in (
-      covered (now (a .t)) (slots (now (a .line))) (a .idx) (a .neighbour) (g .glyph .result) (i .first-index .result) (g .glyph .ensures .0)
+      covered (now (a .t)) (slots (a .shape) (now (a .line))) (a .idx) (a .neighbour) (g .glyph .result) (i .first-index .result) (g .glyph .ensures .0)
           (i .first-index .ensures) (m .covered .given .0 .0) (m .covered .given .1) (meant (now (a .t)) (c .from-neighbour .result)) (c .from-neighbour .ensures .0),
       c .from-neighbour .ensures .1,
     )
@@ -38,7 +38,7 @@ returns-2 c =
     let i = c .before .before in
     let g = i .before in
     let a = g .before .before .before .args in (
-      uncovered (now (a .t)) (slots (now (a .line))) (a .idx) (a .neighbour) (g .glyph .result) (i .first-index .result) (g .glyph .ensures .0)
+      uncovered (now (a .t)) (slots (a .shape) (now (a .line))) (a .idx) (a .neighbour) (g .glyph .result) (i .first-index .result) (g .glyph .ensures .0)
           (i .first-index .ensures) (c .enum-told .given .1),
       tt,
     )

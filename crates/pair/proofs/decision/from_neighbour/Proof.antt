@@ -3,7 +3,7 @@
 use mathlib.Core.Path.{subst}
 use borrow.Author.Needs.{needs}
 use denote.Ref.{now}
-use Rattle.slots.specs.Line.{count, slots}
+use Rattle.slots.specs.Line.{slots}
 use Rattle.answers.specs.Said.{ranges}
 use Rattle.pair.specs.Meant.{After, meant}
 use Rattle.pair.proofs.PlanLaws.{by-missing, by-named}
@@ -17,8 +17,8 @@ from-second-requires : tie.Need-from-second-requires
 from-second-requires c κs =
     let m = c .before in
     let s = m .before .before .before .before in
-    let w = subst (After (count (now (s .args .line))) (s .args .idx)) (m .neighbour .given .1) (s .pre .2) in
-    (s .pre .0, w .0, w .1)
+    let w = subst (After (s .args .shape .count) (s .args .idx)) (m .neighbour .given .1) (s .pre .2) in
+    (s .pre .0, w .0, search needs)
 
 enum-known-neighbour-2 : tie.Need-enum-known-neighbour-2
 enum-known-neighbour-2 c = search needs
@@ -30,7 +30,7 @@ returns : tie.Need-returns
 returns c =
     let m = c .before .before in
     let a = m .before .before .before .before .args in (
-      by-named (now (a .t)) (slots (now (a .line))) (a .idx) (a .k) (a .neighbour) (m .neighbour .given .0 .0) (m .neighbour .given .1)
+      by-named (now (a .t)) (slots (a .shape) (now (a .line))) (a .idx) (a .k) (a .neighbour) (m .neighbour .given .0 .0) (m .neighbour .given .1)
           (meant (now (a .t)) (c .from-second .result)) (c .from-second .ensures .0),
       c .from-second .ensures .1,
     )
@@ -39,7 +39,7 @@ returns-2 : tie.Need-returns-2
 returns-2 c =
     let m = c .before .before in
     let a = m .before .before .before .before .args in (
-      by-missing (now (a .t)) (slots (now (a .line))) (a .idx) (a .k) (a .neighbour) (m .neighbour2 .given .0 .0) (m .neighbour2 .given .1)
+      by-missing (now (a .t)) (slots (a .shape) (now (a .line))) (a .idx) (a .k) (a .neighbour) (m .neighbour2 .given .0 .0) (m .neighbour2 .given .1)
           (ranges (c .concat-from .result)) (c .concat-from .ensures),
       tt,
     )

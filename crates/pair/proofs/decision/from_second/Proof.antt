@@ -1,26 +1,22 @@
 -- `pair::decision::from_second` meets its contract: by the format, the pair set is probed, or the two classes are looked up in lists that are good. Assumes nothing.
-use mathlib.Core.Path.{_≡_, ap, subst, _∙_}
-use Prim.Native.Nat.{ℕ}
+use mathlib.Core.Path.{_≡_, ap, _∙_}
 use native.Mathlib.Omega.{arith}
 use borrow.Author.Needs.{needs}
 use denote.Ref.{now}
 use Rattle.slots.specs.Line.{slots}
 use Rattle.tables.specs.ClassDef.{classGoodAt}
 use Rattle.tables.specs.Header.{posFormat}
-use Rattle.pair.specs.Meant.{meant, Sound}
+use Rattle.pair.specs.Meant.{meant}
 use Rattle.pair.proofs.PairPosLaws.{good}
 use Rattle.pair.proofs.PlanLaws.{by-classes, by-set}
 use Rattle.pair.proofs.decision.from_second.Statement.{statement}
 use Rattle.pair.proofs.decision.from_second.Tie as tie
 
-slot-count-requires : tie.Need-slot-count-requires
-slot-count-requires c κs = search needs
-
 glyph-requires : tie.Need-glyph-requires
 glyph-requires c κs = search needs
 
 read-u16-requires : tie.Need-read-u16-requires
-read-u16-requires c κs = let s = c .before .before .before .before in omega (arith, good (now (s .args .t)) (s .pre .0) .head .whole)
+read-u16-requires c κs = let s = c .before .before .before in omega (arith, good (now (s .args .t)) (s .pre .0) .head .whole)
 
 from-set-requires : tie.Need-from-set-requires
 from-set-requires c κs = search needs
@@ -30,20 +26,19 @@ returns c =
     let i = c .before in
     let f = i .before in
     let g = f .before in
-    let n = g .before in
-    let a = n .before .before .before .args in (
-      by-set (now (a .t)) (slots (now (a .line))) (a .idx) (a .k) (a .second) (meant (now (a .t)) (c .from-set .result)) (f .read-u16 .result) (g .glyph .result)
+    let a = g .before .before .before .args in (
+      by-set (now (a .t)) (slots (a .shape) (now (a .line))) (a .idx) (a .k) (a .second) (meant (now (a .t)) (c .from-set .result)) (f .read-u16 .result) (g .glyph .result)
           (f .read-u16 .ensures .0) (i .if1 .taken) (g .glyph .ensures .0) (c .from-set .ensures .0),
-      subst (λ (m : ℕ). Sound (now (a .t)) m (a .idx) (c .from-set .result)) (n .slot-count .ensures) (c .from-set .ensures .1),
+      c .from-set .ensures .1,
     )
 
 -- where the format isn't 1
-other : (c : tie.Else1) → posFormat (now (c .before .before .before .before .before .before .args .t)) ≡ 1 → ⊥
+other : (c : tie.Else1) → posFormat (now (c .before .before .before .before .before .args .t)) ≡ 1 → ⊥
 other c e = c .if1 .left (c .before .read-u16 .ensures .0 ∙ e)
 
 read-u16-requires-2 : tie.Need-read-u16-requires-2
 read-u16-requires-2 c κs =
-    let s = c .before .before .before .before .before .before in
+    let s = c .before .before .before .before .before in
     omega (arith, good (now (s .args .t)) (s .pre .0) .head .whole)
 
 cast-class-at : tie.Need-cast-class-at
@@ -55,14 +50,14 @@ glyph-requires-2 c κs = search needs
 class-at-requires : tie.Need-class-at-requires
 class-at-requires c κs =
     let i = c .before .before in
-    let s = i .before .before .before .before .before .before in
+    let s = i .before .before .before .before .before in
     let t = now (s .args .t) in
     (c .glyph2 .ensures .1, ap (classGoodAt t) (c .before .read-u162 .ensures .0) ∙ good t (s .pre .0) .classes1 (other i))
 
 read-u16-requires-3 : tie.Need-read-u16-requires-3
 read-u16-requires-3 c κs =
     let i = c .before .before .before in
-    let s = i .before .before .before .before .before .before in
+    let s = i .before .before .before .before .before in
     omega (arith, good (now (s .args .t)) (s .pre .0) .head .whole2 (other i))
 
 cast-class-at-2 : tie.Need-cast-class-at-2
@@ -71,20 +66,19 @@ cast-class-at-2 c = search needs
 class-at-requires-2 : tie.Need-class-at-requires-2
 class-at-requires-2 c κs =
     let i = c .before .before .before .before in
-    let s = i .before .before .before .before .before .before in
+    let s = i .before .before .before .before .before in
     let t = now (s .args .t) in
     (i .before .before .glyph .ensures .1, ap (classGoodAt t) (c .read-u163 .ensures .0) ∙ good t (s .pre .0) .classes2 (other i))
 
 from-classes-requires : tie.Need-from-classes-requires
 from-classes-requires c κs =
     let i = c .before .before .before .before .before in
-    let n = i .before .before .before in
-    let s = n .before .before .before in (
+    let s = i .before .before .before .before .before in (
       s .pre .0,
       good (now (s .args .t)) (s .pre .0) .head .known (other i),
-      omega (arith, n .slot-count .ensures),
+      omega arith,
       s .pre .1,
-      omega (arith, n .slot-count .ensures),
+      omega arith,
       c .before .before .class-at .ensures .1,
       c .class-at2 .ensures .1,
     )
@@ -98,20 +92,18 @@ returns-2 c =
     let o₁ = g₁ .before in
     let i = o₁ .before in
     let g₂ = i .before .before in
-    let n = g₂ .before in
-    let a = n .before .before .before .args in (
-      by-classes (now (a .t)) (slots (now (a .line))) (a .idx) (a .k) (a .second) (meant (now (a .t)) (c .from-classes .result)) (other i)
+    let a = g₂ .before .before .before .args in (
+      by-classes (now (a .t)) (slots (a .shape) (now (a .line))) (a .idx) (a .k) (a .second) (meant (now (a .t)) (c .from-classes .result)) (other i)
           (g₁ .glyph2 .result) (g₂ .glyph .result) (o₁ .read-u162 .result) (o₂ .read-u163 .result) (c₁ .class-at .result) (c₂ .class-at2 .result)
           (g₁ .glyph2 .ensures .0) (g₂ .glyph .ensures .0) (o₁ .read-u162 .ensures .0) (o₂ .read-u163 .ensures .0) (c₁ .class-at .ensures .0)
           (c₂ .class-at2 .ensures .0) (c .from-classes .ensures .0),
-      subst (λ (m : ℕ). Sound (now (a .t)) m (a .idx) (c .from-classes .result)) (n .slot-count .ensures) (c .from-classes .ensures .1),
+      c .from-classes .ensures .1,
     )
 
 pub from-second-spec : {M : Type 1} → statement M
 from-second-spec =
     tie.close
     (tie.spec
-    slot-count-requires
     glyph-requires
     read-u16-requires
     from-set-requires

@@ -4,6 +4,9 @@ use Rattle.replay.specs.Replayed.{cursive}
 use Rattle.replay.proofs.calls.is_cursive.Statement.{statement}
 use Rattle.replay.proofs.calls.is_cursive.Tie as tie
 
+place-requires : tie.Need-place-requires
+place-requires c κs = search needs
+
 number-requires : tie.Need-number-requires
 number-requires c κs = search needs
 
@@ -13,14 +16,14 @@ number-requires-2 c κs = search needs
 number-requires-3 : tie.Need-number-requires-3
 number-requires-3 c κs = search needs
 
-place-requires : tie.Need-place-requires
-place-requires c κs = search needs
+place-requires-2 : tie.Need-place-requires-2
+place-requires-2 c κs = search needs
 
 number-requires-4 : tie.Need-number-requires-4
 number-requires-4 c κs = search needs
 
-place-requires-2 : tie.Need-place-requires-2
-place-requires-2 c κs = search needs
+place-requires-3 : tie.Need-place-requires-3
+place-requires-3 c κs = search needs
 
 number-requires-5 : tie.Need-number-requires-5
 number-requires-5 c κs = search needs
@@ -44,18 +47,20 @@ returns c =
     let u = index .before in
     let s = u .before in
     let direction = s .before in
-    λ e. cursive (direction .before .before .before .before .pre) (rw (direction .number .ensures, s .number2 .ensures, u .number3 .ensures, index .place .ensures, missing .number4 .ensures, previous .place2 .ensures, flag .number5 .ensures, c .is-answer .ensures .0 e) at (call .gpos-cursive .ensures))
+    let size = direction .before in
+    λ e. cursive (size .before .before .before .before .pre) (rw (size .place .ensures, direction .number .ensures, s .number2 .ensures, u .number3 .ensures, index .place2 .ensures, missing .number4 .ensures, previous .place3 .ensures, flag .number5 .ensures, c .is-answer .ensures .0 e) at (call .gpos-cursive .ensures))
 
 pub is-cursive-spec : {M : Type 1} → statement M
 is-cursive-spec =
     tie.close
     (tie.spec
+    place-requires
     number-requires
     number-requires-2
     number-requires-3
-    place-requires
-    number-requires-4
     place-requires-2
+    number-requires-4
+    place-requires-3
     number-requires-5
     gpos-cursive-requires
     is-answer-requires

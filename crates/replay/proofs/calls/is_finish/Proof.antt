@@ -4,6 +4,9 @@ use Rattle.replay.specs.Replayed.{finish}
 use Rattle.replay.proofs.calls.is_finish.Statement.{statement}
 use Rattle.replay.proofs.calls.is_finish.Tie as tie
 
+place-requires : tie.Need-place-requires
+place-requires c κs = search needs
+
 number-requires : tie.Need-number-requires
 number-requires c κs = search needs
 
@@ -28,12 +31,14 @@ returns c =
     let attachments = call .before in
     let limit = attachments .before in
     let direction = limit .before in
-    λ e. finish (direction .before .before .before .before .pre) (rw (direction .number .ensures, limit .number2 .ensures, attachments .number3 .ensures) at (call .gpos-finish .ensures)) (c .is-done .ensures .0 e)
+    let size = direction .before in
+    λ e. finish (size .before .before .before .before .pre) (rw (size .place .ensures, direction .number .ensures, limit .number2 .ensures, attachments .number3 .ensures) at (call .gpos-finish .ensures)) (c .is-done .ensures .0 e)
 
 pub is-finish-spec : {M : Type 1} → statement M
 is-finish-spec =
     tie.close
     (tie.spec
+    place-requires
     number-requires
     number-requires-2
     number-requires-3

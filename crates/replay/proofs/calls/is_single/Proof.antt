@@ -4,6 +4,9 @@ use Rattle.replay.specs.Replayed.{single}
 use Rattle.replay.proofs.calls.is_single.Statement.{statement}
 use Rattle.replay.proofs.calls.is_single.Tie as tie
 
+place-requires : tie.Need-place-requires
+place-requires c κs = search needs
+
 number-requires : tie.Need-number-requires
 number-requires c κs = search needs
 
@@ -13,8 +16,8 @@ number-requires-2 c κs = search needs
 number-requires-3 : tie.Need-number-requires-3
 number-requires-3 c κs = search needs
 
-place-requires : tie.Need-place-requires
-place-requires c κs = search needs
+place-requires-2 : tie.Need-place-requires-2
+place-requires-2 c κs = search needs
 
 gpos-single-requires : tie.Need-gpos-single-requires
 gpos-single-requires c κs = search needs
@@ -32,16 +35,18 @@ returns c =
     let u = index .before in
     let s = u .before in
     let direction = s .before in
-    λ e. single (direction .before .before .before .before .pre) (rw (direction .number .ensures, s .number2 .ensures, u .number3 .ensures, index .place .ensures, c .is-answer .ensures .0 e) at (call .gpos-single .ensures))
+    let size = direction .before in
+    λ e. single (size .before .before .before .before .pre) (rw (size .place .ensures, direction .number .ensures, s .number2 .ensures, u .number3 .ensures, index .place2 .ensures, c .is-answer .ensures .0 e) at (call .gpos-single .ensures))
 
 pub is-single-spec : {M : Type 1} → statement M
 is-single-spec =
     tie.close
     (tie.spec
+    place-requires
     number-requires
     number-requires-2
     number-requires-3
-    place-requires
+    place-requires-2
     gpos-single-requires
     is-answer-requires
     same-length

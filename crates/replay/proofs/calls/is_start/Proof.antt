@@ -4,6 +4,9 @@ use Rattle.replay.specs.Replayed.{start}
 use Rattle.replay.proofs.calls.is_start.Statement.{statement}
 use Rattle.replay.proofs.calls.is_start.Tie as tie
 
+place-requires : tie.Need-place-requires
+place-requires c κs = search needs
+
 gpos-start-requires : tie.Need-gpos-start-requires
 gpos-start-requires c κs = search needs
 
@@ -14,7 +17,10 @@ same-length : tie.Need-same-length
 same-length c = search needs
 
 returns : tie.Need-returns
-returns c = λ e. start (c .before .before .before .before .before .before .before .pre) (c .before .before .before .gpos-start .ensures) (c .is-done .ensures .0 e)
+returns c =
+    let call = c .before .before .before in
+    let size = call .before in
+    λ e. start (size .before .before .before .before .pre) (rw (size .place .ensures) at (call .gpos-start .ensures)) (c .is-done .ensures .0 e)
 
 pub is-start-spec : {M : Type 1} → statement M
-is-start-spec = tie.close (tie.spec gpos-start-requires is-done-requires same-length returns)
+is-start-spec = tie.close (tie.spec place-requires gpos-start-requires is-done-requires same-length returns)

@@ -21,7 +21,7 @@ place-for-requires c κs = search needs
 
 -- the place that was found is that of the slot's glyph
 found : (c : tie.After-place-for) (p : Place) → c .place-for .result ≡ p
-    → (let a = c .before .before .before .before .before .args in placeOf p ≡ placeFor (now (a .t)) (slot (slots (now (a .line))) (a .i) .glyph))
+    → (let a = c .before .before .before .before .before .args in placeOf p ≡ placeFor (now (a .t)) (slot (slots (a .shape) (now (a .line))) (a .i) .glyph))
 found c p e =
     let a = c .before .before .before .before .before .args in
     sym (ap placeOf e) ∙ c .place-for .ensures .0 ∙ ap (placeFor (now (a .t))) (c .before .glyph .ensures .0)
@@ -47,8 +47,8 @@ record-at-requires c κs =
 apply-value-requires : tie.Need-apply-value-requires
 apply-value-requires c κs = (search needs, omega (arith, known (c .before .before)), search needs, c .record-at .ensures .1)
 
-add-t19 : tie.Need-add-t19
-add-t19 c = search needs
+add-t20 : tie.Need-add-t20
+add-t20 c = search needs
 
 same-length : tie.Need-same-length
 same-length c = search needs
@@ -57,7 +57,7 @@ returns : tie.Need-returns
 returns c =
     let k = c .before .before in
     let a = k .before .before .before .before .before .args in
-    effect-none (a .s) (a .u) (a .d) (now (a .t)) (a .i) (slots (now (a .line))) (found k _ (c .enum-told .given .1))
+    effect-none (a .s) (a .u) (a .d) (now (a .t)) (a .i) (slots (a .shape) (now (a .line))) (found k _ (c .enum-told .given .1))
 
 same-length-2 : tie.Need-same-length-2
 same-length-2 c = search needs
@@ -69,8 +69,8 @@ returns-2 c =
     let m = f .before .before in
     let k = m .before .before in
     let a = k .before .before .before .before .before .args in
-    effect-some (a .s) (a .u) (a .d) (now (a .t)) (a .i) (slots (now (a .line))) (m .place .given .0 .0) (f .read-u16 .result)
-    (now (v .before .record-at .result)) (slots (v .apply-value .last .0)) (found k _ (m .place .given .1)) (f .read-u16 .ensures .0)
+    effect-some (a .s) (a .u) (a .d) (now (a .t)) (a .i) (slots (a .shape) (now (a .line))) (m .place .given .0 .0) (f .read-u16 .result)
+    (now (v .before .record-at .result)) (slots (a .shape) (v .apply-value .last .0)) (found k _ (m .place .given .1)) (f .read-u16 .ensures .0)
     (v .before .record-at .ensures .0) (v .apply-value .ensures .0)
 
 pub adjust-spec : {M : Type 1} → statement M
@@ -84,7 +84,7 @@ adjust-spec =
     read-u16-requires
     record-at-requires
     apply-value-requires
-    add-t19
+    add-t20
     same-length
     returns
     same-length-2

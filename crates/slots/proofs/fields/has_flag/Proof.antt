@@ -21,13 +21,13 @@ enum-told-3 : tie.Need-enum-told-3
 enum-told-3 c = search needs
 
 returns : tie.Need-returns
-returns c = ap (flagIn Seen) (c .before .before .get-byte .ensures) ∙ ap (λ (f : Flag). flagIn f (slot (slots (c .before .before .before .before .args .line .now)) (c .before .before .before .before .args .i) .flags)) (sym (c .enum-told .given .1))
+returns c = ap (flagIn Seen) (c .before .before .get-byte .ensures) ∙ ap (λ (f : Flag). flagIn f (slot (slots (c .before .before .before .before .args .shape) (c .before .before .before .before .args .line .now)) (c .before .before .before .before .args .i) .flags)) (sym (c .enum-told .given .1))
 
 returns-2 : tie.Need-returns-2
-returns-2 c = ap (flagIn Mark) (c .before .before .get-byte .ensures) ∙ ap (λ (f : Flag). flagIn f (slot (slots (c .before .before .before .before .args .line .now)) (c .before .before .before .before .args .i) .flags)) (sym (c .enum-told2 .given .1))
+returns-2 c = ap (flagIn Mark) (c .before .before .get-byte .ensures) ∙ ap (λ (f : Flag). flagIn f (slot (slots (c .before .before .before .before .args .shape) (c .before .before .before .before .args .line .now)) (c .before .before .before .before .args .i) .flags)) (sym (c .enum-told2 .given .1))
 
 returns-3 : tie.Need-returns-3
-returns-3 c = ap (flagIn Multiplied) (c .before .before .get-byte .ensures) ∙ ap (λ (f : Flag). flagIn f (slot (slots (c .before .before .before .before .args .line .now)) (c .before .before .before .before .args .i) .flags)) (sym (c .enum-told3 .given .1))
+returns-3 c = ap (flagIn Multiplied) (c .before .before .get-byte .ensures) ∙ ap (λ (f : Flag). flagIn f (slot (slots (c .before .before .before .before .args .shape) (c .before .before .before .before .args .line .now)) (c .before .before .before .before .args .i) .flags)) (sym (c .enum-told3 .given .1))
 
 pub has-flag-spec : {M : Type 1} → statement M
 has-flag-spec =

@@ -6,7 +6,7 @@ use Rattle.slots.specs.Slot.{slotOf}
 use Rattle.ints.specs.Signed.{val, withInt}
 use Rattle.ints.proofs.SignedLaws.{signed-in}
 use Rattle.slots.specs.Fields.{withMeasure}
-use Rattle.slots.proofs.LineLaws.{lent, lent-length, line-update}
+use Rattle.slots.proofs.LineLaws.{lent, lent-length, line-update, slot-end}
 use Rattle.slots.proofs.FieldLaws.{measure-put}
 use borrow.Author.Needs.{needs}
 use Rattle.slots.proofs.fields.set.Statement.{statement}
@@ -16,10 +16,10 @@ measure-at-requires : tie.Need-measure-at-requires
 measure-at-requires c κs = search needs
 
 mul-from : tie.Need-mul-from
-mul-from c = search needs
+mul-from c = let a = c .before .before .args in omega (arith, slot-end (a .shape) (a .line .now) (a .i) (search needs))
 
 add-to : tie.Need-add-to
-add-to c = search needs
+add-to c = let a = c .before .before .args in omega (arith, slot-end (a .shape) (a .line .now) (a .i) (search needs))
 
 sub-write-i32 : tie.Need-sub-write-i32
 sub-write-i32 c = search needs
@@ -28,7 +28,7 @@ part-write-i32-start : tie.Need-part-write-i32-start
 part-write-i32-start c = search needs
 
 part-write-i32-end : tie.Need-part-write-i32-end
-part-write-i32-end c = search needs
+part-write-i32-end c = let a = c .before .before .args in omega (arith, slot-end (a .shape) (a .line .now) (a .i) (search needs))
 
 write-i32-requires : tie.Need-write-i32-requires
 write-i32-requires c κs = search needs
@@ -42,9 +42,9 @@ returns c =
     let call = c .before .before .write-i32 in
     let l = a .line .now in
     let i = a .i in
-    line-update l i (omega arith) (withMeasure (a .m) (a .a) (val (a .v))) (call .last .0) (call .kept .0)
-    (ap slotOf (call .ensures ∙ ap (λ (n : ℕ). withInt 4 (lent l i) n (val (a .v))) (c .before .before .before .before .measure-at .ensures .0))
-    ∙ measure-put (val (a .v)) (signed-in 4 (a .v) (omega arith) (omega arith)) (a .m) (a .a) (lent l i) (lent-length l i (omega arith)))
+    line-update (a .shape) l i (search needs) (withMeasure (a .m) (a .a) (val (a .v))) (call .last .0) (call .kept .0)
+    (ap slotOf (call .ensures ∙ ap (λ (n : ℕ). withInt 4 (lent (a .shape) l i) n (val (a .v))) (c .before .before .before .before .measure-at .ensures .0))
+    ∙ measure-put (val (a .v)) (signed-in 4 (a .v) (omega arith) (omega arith)) (a .m) (a .a) (lent (a .shape) l i) (lent-length (a .shape) l i (search needs)))
 
 pub set-spec : {M : Type 1} → statement M
 set-spec =

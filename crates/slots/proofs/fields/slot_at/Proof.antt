@@ -1,15 +1,15 @@
 -- The part of 24 bytes at i * 24 is slot i. Assumes nothing.
 use native.Mathlib.Omega.{arith}
-use Rattle.slots.proofs.LineLaws.{lent-length, line-get}
+use Rattle.slots.proofs.LineLaws.{lent-length, line-get, slot-end}
 use borrow.Author.Needs.{needs}
 use Rattle.slots.proofs.fields.slot_at.Statement.{statement}
 use Rattle.slots.proofs.fields.slot_at.Tie as tie
 
 mul-a : tie.Need-mul-a
-mul-a c = search needs
+mul-a c = let a = c .args in omega (arith, slot-end (a .shape) (a .line .now) (a .i) (search needs))
 
 add-b : tie.Need-add-b
-add-b c = search needs
+add-b c = let a = c .args in omega (arith, slot-end (a .shape) (a .line .now) (a .i) (search needs))
 
 sub-result : tie.Need-sub-result
 sub-result c = search needs
@@ -18,12 +18,12 @@ part-result-start : tie.Need-part-result-start
 part-result-start c = search needs
 
 part-result-end : tie.Need-part-result-end
-part-result-end c = search needs
+part-result-end c = let a = c .args in omega (arith, slot-end (a .shape) (a .line .now) (a .i) (search needs))
 
 returns : tie.Need-returns
 returns c =
     let a = c .before .args in
-    (line-get (a .line .now) (a .i) (omega arith), lent-length (a .line .now) (a .i) (omega arith))
+    (line-get (a .shape) (a .line .now) (a .i) (search needs), lent-length (a .shape) (a .line .now) (a .i) (search needs))
 
 pub slot-at-spec : {M : Type 1} → statement M
 slot-at-spec =

@@ -1,35 +1,29 @@
 -- A part of whole slots is those slots. Assumes nothing.
-use Prim.Native.Nat.{_-_, _*_}
 use native.Mathlib.Omega.{arith}
-use mathlib.Core.Path.{_≡_, refl}
-use lib.ListN.{length, drop, length-drop}
-use lib.Seq.{length-take-le}
-use Rattle.slots.proofs.LineLaws.{slots-part}
-use borrow.Author.Needs.{needs}
+use Rattle.slots.proofs.LineLaws.{part-ends, part-fits, slots-part}
 use Rattle.slots.proofs.fields.slots_between.Statement.{statement}
 use Rattle.slots.proofs.fields.slots_between.Tie as tie
 
 mul-a : tie.Need-mul-a
-mul-a c = search needs
+mul-a c = let a = c .args in let p = c .pre in omega (arith, part-ends (a .shape) (a .line .now) (a .i) (a .j) (p .0) (p .1) (p .2))
 
 mul-b : tie.Need-mul-b
-mul-b c = search needs
+mul-b c = let a = c .args in let p = c .pre in omega (arith, part-ends (a .shape) (a .line .now) (a .i) (a .j) (p .0) (p .1) (p .2))
 
 sub-result : tie.Need-sub-result
-sub-result c = search needs
+sub-result c = let a = c .args in let p = c .pre in omega (arith, part-ends (a .shape) (a .line .now) (a .i) (a .j) (p .0) (p .1) (p .2))
 
 part-result-start : tie.Need-part-result-start
-part-result-start c = search needs
+part-result-start c = let a = c .args in let p = c .pre in omega (arith, part-ends (a .shape) (a .line .now) (a .i) (a .j) (p .0) (p .1) (p .2))
 
 part-result-end : tie.Need-part-result-end
-part-result-end c = search needs
+part-result-end c = let a = c .args in let p = c .pre in omega (arith, part-ends (a .shape) (a .line .now) (a .i) (a .j) (p .0) (p .1) (p .2))
 
 returns : tie.Need-returns
 returns c =
     let a = c .before .args in
-    let l = a .line .now in
-    let n : length (lib.ListN.take (a .j * 24 - a .i * 24) (drop (a .i * 24) l)) ≡ a .j * 24 - a .i * 24 = length-take-le (a .j * 24 - a .i * 24) (drop (a .i * 24) l) (simp length-drop (omega arith)) in
-    (slots-part l (a .i) (a .j) (a .j * 24 - a .i * 24) (omega arith) (omega arith) refl, omega arith)
+    let p = c .before .pre in
+    (slots-part (a .shape) (a .line .now) (a .i) (a .j) (p .0) (p .1) (p .2), part-fits (a .shape) (a .line .now) (a .i) (a .j) (p .0) (p .1) (p .2))
 
 pub slots-between-spec : {M : Type 1} → statement M
 slots-between-spec =

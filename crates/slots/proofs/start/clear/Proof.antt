@@ -1,4 +1,6 @@
 -- Bytes 5, 6 and 7 are type and chain. Assumes nothing.
+use native.Mathlib.Omega.{arith}
+use lib.ListN.{length-set}
 use Rattle.slots.proofs.FieldLaws.{clear-put}
 use borrow.Author.Needs.{needs}
 use Rattle.slots.proofs.start.clear.Statement.{statement}
@@ -8,10 +10,10 @@ slice-write-slot : tie.Need-slice-write-slot
 slice-write-slot c = search needs
 
 slice-write-slot-2 : tie.Need-slice-write-slot-2
-slice-write-slot-2 c = search needs
+slice-write-slot-2 c = simp length-set (omega arith)
 
 slice-write-slot-3 : tie.Need-slice-write-slot-3
-slice-write-slot-3 c = search needs
+slice-write-slot-3 c = simp length-set (omega arith)
 
 same-length : tie.Need-same-length
 same-length c = search needs

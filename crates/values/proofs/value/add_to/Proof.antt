@@ -23,7 +23,7 @@ returns : tie.Need-returns
 returns c =
     let a = c .before .before .before .before .before .before .before .before .args in
     let call = c .before .before in
-    put-measure plus (a .m) (a .a) (a .i) (val (a .v)) _ _ (slots (a .line .now)) _ (call .before .before .before .get .ensures) (call .before .sat-add .ensures) (call .set .ensures)
+    put-measure plus (a .m) (a .a) (a .i) (val (a .v)) _ _ (slots (a .shape) (a .line .now)) _ (call .before .before .before .get .ensures) (call .before .sat-add .ensures) (call .set .ensures)
 
 pub add-to-spec : {M : Type 1} → statement M
 add-to-spec = tie.close (tie.spec get-requires sat-add-requires set-requires same-length returns)

@@ -17,7 +17,7 @@ returns : tie.Need-returns
 returns c =
     let start = c .before .before .before .before in
     let a = start .args in
-    field-skipped (a .s) (a .u) (a .d) (a .r .now) (a .format) (a .field) (a .i) (slots (a .line .now)) (start .pre .3) (ap touchBy (sym (c .if1 .taken)) ∙ c .before .touch-of .ensures .0)
+    field-skipped (a .s) (a .u) (a .d) (a .r .now) (a .format) (a .field) (a .i) (slots (a .shape) (a .line .now)) (start .pre .3) (ap touchBy (sym (c .if1 .taken)) ∙ c .before .touch-of .ensures .0)
 
 field-place-requires : tie.Need-field-place-requires
 field-place-requires c κs = search needs
@@ -45,7 +45,7 @@ returns-2 c =
     let v = call .before .before .before .read-i16 in
     let place = call .before .before .before .before .field-place .ensures in
     let t = call .before .before .before .before .before .before .touch-of in
-    field-applied (a .s) (a .u) (a .d) (a .r .now) (a .format) (a .field) (a .i) (slots (a .line .now)) (t .result) (v .result) (scale .result) _
+    field-applied (a .s) (a .u) (a .d) (a .r .now) (a .format) (a .field) (a .i) (slots (a .shape) (a .line .now)) (t .result) (v .result) (scale .result) _
     (start .pre .3) (t .ensures .0) (call .before .before .before .before .before .if1 .left) (t .ensures .1) (omega arith)
     (v .ensures .0 ∙ ap (intAt 2 (a .r .now)) place) (scale .ensures .0) (call .touch .ensures)
 

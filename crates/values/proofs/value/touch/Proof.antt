@@ -19,7 +19,7 @@ same-length c = search needs
 returns : tie.Need-returns
 returns c =
     let a = c .before .before .before .before .before .before .args in
-    by-code 1 (a .t) (a .i) (val (a .v)) (slots (a .line .now)) _ (c .before .before .before .before .if1 .taken) (c .before .before .add-to .ensures)
+    by-code 1 (a .t) (a .i) (val (a .v)) (slots (a .shape) (a .line .now)) _ (c .before .before .before .before .if1 .taken) (c .before .before .add-to .ensures)
 
 add-to-requires-2 : tie.Need-add-to-requires-2
 add-to-requires-2 c κs = search needs
@@ -30,7 +30,7 @@ same-length-2 c = search needs
 returns-2 : tie.Need-returns-2
 returns-2 c =
     let a = c .before .before .before .before .before .before .before .args in
-    by-code 2 (a .t) (a .i) (val (a .v)) (slots (a .line .now)) _ (c .before .before .before .before .if2 .taken) (c .before .before .add-to2 .ensures)
+    by-code 2 (a .t) (a .i) (val (a .v)) (slots (a .shape) (a .line .now)) _ (c .before .before .before .before .if2 .taken) (c .before .before .add-to2 .ensures)
 
 add-to-requires-3 : tie.Need-add-to-requires-3
 add-to-requires-3 c κs = search needs
@@ -41,7 +41,7 @@ same-length-3 c = search needs
 returns-3 : tie.Need-returns-3
 returns-3 c =
     let a = c .before .before .before .before .before .before .before .before .args in
-    by-code 3 (a .t) (a .i) (val (a .v)) (slots (a .line .now)) _ (c .before .before .before .before .if3 .taken) (c .before .before .add-to3 .ensures)
+    by-code 3 (a .t) (a .i) (val (a .v)) (slots (a .shape) (a .line .now)) _ (c .before .before .before .before .if3 .taken) (c .before .before .add-to3 .ensures)
 
 get-requires : tie.Need-get-requires
 get-requires c κs = search needs
@@ -58,7 +58,7 @@ same-length-4 c = search needs
 returns-4 : tie.Need-returns-4
 returns-4 c =
     let a = c .before .before .before .before .before .before .before .before .before .before .before .args in
-    let ss = slots (a .line .now) in
+    let ss = slots (a .shape) (a .line .now) in
     let call = c .before .before in
     by-code 4 (a .t) (a .i) (val (a .v)) ss _ (omega arith)
     (put-measure less Advance Y (a .i) (val (a .v)) _ _ ss _ (call .before .before .before .get .ensures) (call .before .sat-sub .ensures) (call .set .ensures))
