@@ -1,0 +1,14 @@
+pub mod Hazards
+pub mod Demand3
+pub mod Results
+pub mod WorkedSums
+pub mod ClusterLaws
+pub mod PlainLaws
+pub mod ValueClusters
+pub mod SingleClusters
+pub mod PairClusters
+pub mod CursiveClusters
+pub mod MarkClusters
+pub mod FinishClusters
+pub mod Clusters
+pub mod Moves

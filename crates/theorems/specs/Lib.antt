@@ -1,0 +1,1 @@
+pub mod Clusters  -- no call looks at a cluster or writes one
