@@ -19,15 +19,20 @@ pub struct Answer {
 }
 
 extern "C" {
-    pub fn gpos_start(line: *mut u8, line_len: usize) -> u32;
-    pub fn gpos_finish(line: *mut u8, line_len: usize, direction: u32, nesting_limit: u32, attachments: u32) -> u32;
+    pub fn gpos_start(line: *mut u8, line_len: usize, slot_size: usize) -> u32;
+    pub fn gpos_finish(line: *mut u8, line_len: usize, slot_size: usize, direction: u32, nesting_limit: u32, attachments: u32) -> u32;
+    pub fn gpos_to_clusters(line: *const u8, line_len: usize, target: *mut u8, target_len: usize) -> u32;
+    pub fn gpos_from_clusters(line: *const u8, line_len: usize, target: *mut u8, target_len: usize) -> u32;
 }
 
 /// Declares a call that applies a subtable: the arguments that all have, then its own.
 macro_rules! applying {
     ($($name:ident($($own:ident: $t:ty),*);)*) => {
         extern "C" {
-            $(pub fn $name(line: *mut u8, line_len: usize, subtable: *const u8, subtable_len: usize, direction: u32, s: u32, u: u32, index: usize, $($own: $t),*) -> Answer;)*
+            $(pub fn $name(
+                line: *mut u8, line_len: usize, slot_size: usize, subtable: *const u8, subtable_len: usize,
+                direction: u32, s: u32, u: u32, index: usize, $($own: $t),*
+            ) -> Answer;)*
         }
     };
 }
