@@ -7,8 +7,8 @@
 
 typedef struct {
     uint32_t direction, s, u, limit, attachments, missing, lookup_flag;
-    size_t index, neighbour, line_len, subtable_len;
-    uint8_t *line, *subtable;
+    size_t size, index, neighbour, line_len, subtable_len;
+    uint8_t *line, *subtable; /* a move's target is in the subtable's place */
 } call;
 
 /* status, refusal, attached, hazards, next, two hazards of kind, start and end, harm */
@@ -29,19 +29,25 @@ static said applying(gpos_answer g) {
     return a;
 }
 
-static said start(const call *c) { return done(gpos_start(c->line, c->line_len)); }
+static said start(const call *c) { return done(gpos_start(c->line, c->line_len, c->size)); }
 
-static said finish(const call *c) { return done(gpos_finish(c->line, c->line_len, c->direction, c->limit, c->attachments)); }
+static said finish(const call *c) { return done(gpos_finish(c->line, c->line_len, c->size, c->direction, c->limit, c->attachments)); }
 
-#define APPLYING c->line, c->line_len, c->subtable, c->subtable_len, c->direction, c->s, c->u, c->index
+#define APPLYING c->line, c->line_len, c->size, c->subtable, c->subtable_len, c->direction, c->s, c->u, c->index
 static said single(const call *c) { return applying(gpos_single(APPLYING)); }
 static said pair(const call *c) { return applying(gpos_pair(APPLYING, c->missing, c->neighbour)); }
 static said cursive(const call *c) { return applying(gpos_cursive(APPLYING, c->missing, c->neighbour, c->lookup_flag)); }
 static said mark_base(const call *c) { return applying(gpos_mark_base(APPLYING)); }
 static said mark_ligature(const call *c) { return applying(gpos_mark_ligature(APPLYING)); }
 
-/* By kind; a call that the library doesn't have yet is left out. */
-static said (*const rows[7])(const call *) = {
+#define MOVING c->line, c->line_len, c->subtable, c->subtable_len
+static said to_clusters(const call *c) { return done(gpos_to_clusters(MOVING)); }
+static said from_clusters(const call *c) { return done(gpos_from_clusters(MOVING)); }
+
+enum { MOVES = 7, ROWS = 9, KINDS = 255, HEADER = 64, GUARD = 64 };
+
+/* By kind; a call that the library doesn't have yet is left out. From MOVES on they write to the target and not to the line. */
+static said (*const rows[ROWS])(const call *) = {
     [0] = start,
     [1] = finish,
     [2] = single,
@@ -49,9 +55,9 @@ static said (*const rows[7])(const call *) = {
     [4] = cursive,
     [5] = mark_base,
     [6] = mark_ligature,
+    [7] = to_clusters,
+    [8] = from_clusters,
 };
-
-enum { KINDS = 255, HEADER = 56, GUARD = 64 };
 
 /* Memory between two guards. */
 typedef struct {
@@ -71,11 +77,14 @@ static uint8_t *lend(lent *m, const uint8_t *from, size_t len) {
     return len == 0 ? NULL : m->all + GUARD;
 }
 
+/* Was a guard changed? */
 static int harmed(const lent *m) {
     for (size_t k = 0; k < GUARD; k++)
         if (m->all[k] != 0xA5 || m->all[GUARD + m->len + k] != 0x5A) return 1;
     return 0;
 }
+
+static int changed(const lent *m, const uint8_t *from) { return memcmp(m->all + GUARD, from, m->len) != 0; }
 
 static uint64_t get(const uint8_t *at, int bytes) {
     uint64_t n = 0;
@@ -98,14 +107,17 @@ static said serve(const uint8_t *q, lent *line, lent *subtable) {
     c.attachments = (uint32_t)get(q + 20, 4);
     c.missing = (uint32_t)get(q + 24, 4);
     c.lookup_flag = (uint32_t)get(q + 28, 4);
-    c.index = get(q + 32, 8);
-    c.neighbour = get(q + 40, 8);
-    c.line_len = get(q + 48, 4);
-    c.subtable_len = get(q + 52, 4);
-    c.line = lend(line, q + HEADER, c.line_len);
-    c.subtable = lend(subtable, q + HEADER + c.line_len, c.subtable_len);
+    c.size = get(q + 32, 8);
+    c.index = get(q + 40, 8);
+    c.neighbour = get(q + 48, 8);
+    c.line_len = get(q + 56, 4);
+    c.subtable_len = get(q + 60, 4);
+    const uint8_t *first = q + HEADER, *second = first + c.line_len;
+    c.line = lend(line, first, c.line_len);
+    c.subtable = lend(subtable, second, c.subtable_len);
     said a = rows[q[0]](&c);
-    if (harmed(line) || harmed(subtable) || memcmp(subtable->all + GUARD, q + HEADER + c.line_len, c.subtable_len) != 0) a.number[11] = 1;
+    int written = q[0] >= MOVES ? changed(line, first) : changed(subtable, second); /* what is only to be read */
+    a.number[11] = harmed(line) || harmed(subtable) || written;
     return a;
 }
 
@@ -122,14 +134,15 @@ int main(void) {
         if (room < n) request = realloc(request, room = 2 * n);
         if (fread(request, 1, n, stdin) != n) return 1;
         if (request[0] == KINDS) { /* which calls are there? */
-            put(7, 4);
-            for (int k = 0; k < 7; k++) put(rows[k] != NULL, 1);
+            put(ROWS, 4);
+            for (int k = 0; k < ROWS; k++) put(rows[k] != NULL, 1);
             continue;
         }
         said a = serve(request, &line, &subtable);
-        put(12 * 8 + line.len, 4);
+        const lent *after = request[0] >= MOVES ? &subtable : &line;
+        put(12 * 8 + after->len, 4);
         for (int k = 0; k < 12; k++) put(a.number[k], 8);
-        fwrite(line.all + GUARD, 1, line.len, stdout);
+        fwrite(after->all + GUARD, 1, after->len, stdout);
     }
     return 0;
 }

@@ -5,22 +5,22 @@
 #include <stdio.h>
 #include <string.h>
 
-enum { SLOTS = 1024, SLOT = 24, PAINT = 0xA5, ROOM = 1 << 20, LIMIT = 64 };
-static uint8_t line[SLOTS * SLOT], room[ROOM] __attribute__((aligned(16)));
-/* Volatile, since the compiler doesn't see that the calls read them. */
-static volatile size_t slots;
+enum { SLOTS = 1024, SHORT = 24, LONG = 28, PAINT = 0xA5, ROOM = 1 << 20, LIMIT = 64 };
+static uint8_t line[SLOTS * LONG], moved[SLOTS * LONG], room[ROOM] __attribute__((aligned(16)));
+/* Volatile, since the compiler doesn't see that the calls read them. The size is a slot's bytes. */
+static volatile size_t slots, size;
 static volatile uint32_t limit;
 
-/* Slot k is cursive, with this chain and a y offset of k. */
+/* Slot k is cursive, with this chain, a y offset of k and, in slots of 28, its cluster. */
 static void put(size_t k, int chain) {
-    uint8_t *s = memset(line + SLOT * k, 0, SLOT);
+    uint8_t *s = memset(line + size * k, 0, size);
     s[1] = 1, s[5] = 2;
     s[6] = (uint8_t)(chain >> 8), s[7] = (uint8_t)chain;
-    s[22] = (uint8_t)(k >> 8), s[23] = (uint8_t)k;
+    s[22] = s[size - 2] = (uint8_t)(k >> 8), s[23] = s[size - 1] = (uint8_t)k;
 }
 
 static int is(size_t k, int chain, int y) {
-    const uint8_t *s = line + SLOT * k;
+    const uint8_t *s = line + size * k;
     return (int16_t)(s[6] << 8 | s[7]) == chain && (int32_t)((uint32_t)s[20] << 24 | (uint32_t)s[21] << 16 | (uint32_t)s[22] << 8 | s[23]) == y;
 }
 
@@ -28,9 +28,9 @@ static int is(size_t k, int chain, int y) {
 static const uint8_t joins[] = {0, 1, 0, 10, 0, 1, 0, 16, 0, 16, 0, 1, 0, 1, 0, 1, 0, 1, 0, 0, 0, 0};
 
 /* The last slot, of a loop that leads through every slot but the first, is joined to the first. */
-static void reversal(void) { gpos_cursive(line, SLOT * slots, joins, sizeof joins, 0, 1000, 1000, slots - 1, 0, 0, 0); }
+static void reversal(void) { gpos_cursive(line, size * slots, size, joins, sizeof joins, 0, 1000, 1000, slots - 1, 0, 0, 0); }
 
-static void finishing(void) { gpos_finish(line, SLOT * slots, 0, limit, 1); }
+static void finishing(void) { gpos_finish(line, size * slots, size, 0, limit, 1); }
 
 /* Each slot hangs on the one before, slot 1 on the last, slot 0 on nothing. */
 static void loop_down(void) {
@@ -57,12 +57,17 @@ static const uint8_t classes[] = {0, 2, 0, 20, 0, 4, 0, 4, 0, 0, 0, 0, 0, 1, 0, 
 static const uint8_t bases[] = {0, 1, 0, 12, 0, 12, 0, 1, 0, 18, 0, 30, 0, 1, 0, 1, 0, 1, 0, 1, 0, 0, 0, 6, 0, 1, 0, 1, 0, 1, 0, 1, 0, 4, 0, 1, 0, 9, 0, 9};
 static const uint8_t ligatures[] = {0, 1, 0, 12, 0, 12, 0, 1, 0, 18, 0, 30, 0, 1, 0, 1, 0, 1, 0, 1, 0, 0, 0, 6, 0, 1, 0, 1, 0, 1, 0, 1, 0, 4, 0, 1, 0, 4, 0, 1, 0, 9, 0, 9};
 static volatile uint32_t status;
-static void starting(void) { gpos_start(line, SLOT * slots); }
-static void adjusting(void) { status = gpos_single(line, SLOT * slots, single, sizeof single, 0, 1000, 1000, slots - 1).status; }
-static void pairing(void) { status = gpos_pair(line, SLOT * slots, pairs, sizeof pairs, 0, 1000, 1000, 0, 0, 1).status; }
-static void classing(void) { status = gpos_pair(line, SLOT * slots, classes, sizeof classes, 0, 1000, 1000, 0, 0, 1).status; }
-static void on_base(void) { status = gpos_mark_base(line, SLOT * slots, bases, sizeof bases, 0, 1000, 1000, slots - 1).status; }
-static void on_ligature(void) { status = gpos_mark_ligature(line, SLOT * slots, ligatures, sizeof ligatures, 0, 1000, 1000, slots - 1).status; }
+static void starting(void) { gpos_start(line, size * slots, size); }
+static void adjusting(void) { status = gpos_single(line, size * slots, size, single, sizeof single, 0, 1000, 1000, slots - 1).status; }
+static void pairing(void) { status = gpos_pair(line, size * slots, size, pairs, sizeof pairs, 0, 1000, 1000, 0, 0, 1).status; }
+static void classing(void) { status = gpos_pair(line, size * slots, size, classes, sizeof classes, 0, 1000, 1000, 0, 0, 1).status; }
+static void on_base(void) { status = gpos_mark_base(line, size * slots, size, bases, sizeof bases, 0, 1000, 1000, slots - 1).status; }
+static void on_ligature(void) { status = gpos_mark_ligature(line, size * slots, size, ligatures, sizeof ligatures, 0, 1000, 1000, slots - 1).status; }
+
+static void moving(void) {
+    uint32_t refused = size == SHORT ? gpos_to_clusters(line, SHORT * slots, moved, LONG * slots) : gpos_from_clusters(line, LONG * slots, moved, SHORT * slots);
+    status = refused == 0 ? GPOS_APPLIED : GPOS_REFUSED;
+}
 
 static size_t used(void (*call)(void)) {
     memset(room, PAINT, ROOM);
@@ -77,11 +82,11 @@ static size_t used(void (*call)(void)) {
 
 /* The most that the calls take which don't call themselves; 0 if one isn't applied. */
 static size_t others(void) {
-    void (*calls[])(void) = {adjusting, pairing, classing, on_base, on_ligature};
+    void (*calls[])(void) = {moving, adjusting, pairing, classing, on_base, on_ligature};
     slots = SLOTS;
     chain_up();
-    line[SLOT * (SLOTS - 2) + 4] = 1; /* seen: the base */
-    line[SLOT * (SLOTS - 2) + 7] = 0; /* and not attached */
+    line[size * (SLOTS - 2) + 4] = 1; /* seen: the base */
+    line[size * (SLOTS - 2) + 7] = 0; /* and not attached */
     size_t most = 0;
     for (size_t k = 0; k < sizeof calls / sizeof *calls; k++) {
         size_t bytes = used(calls[k]);
@@ -105,22 +110,33 @@ static size_t finishing_at(uint32_t most) {
     return used(finishing);
 }
 
-int main(int words, char **word) {
-    if (words > 1) {
-        (void)word;
-        slots = SLOTS, limit = LIMIT;
-        loop_down();
-        reversal();
-        int good = reversed();
-        chain_up();
-        finishing();
-        puts(good ? "both end" : "not reversed");
-        return !good;
-    }
+/* The deepest calls, on the stack as it is. */
+static int deepest(size_t bytes) {
+    size = bytes, slots = SLOTS, limit = LIMIT;
+    loop_down();
+    reversal();
+    int good = reversed();
+    chain_up();
+    finishing();
+    return good;
+}
+
+static int report(size_t bytes) {
+    size = bytes;
     size_t one = reversing(SLOTS), few = reversing(24), deep = finishing_at(LIMIT), flat = finishing_at(0), rest = others();
-    if (one == 0 || few == 0 || rest == 0) return 1;
+    size_t level = deep - finishing_at(LIMIT - 1);
+    if (one == 0 || few == 0 || rest == 0) return 0;
+    printf("slots of %zu bytes\n", bytes);
     printf("gpos_cursive: %zu bytes of stack to reverse a chain through 24 slots, %zu through 1,024: %zu a slot\n", few, one, (one - few) / (SLOTS - 24));
-    printf("gpos_finish: %zu bytes with nesting limit 0, %zu with 64: %zu a level\n", flat, deep, (deep - flat) / LIMIT);
+    printf("gpos_finish: %zu bytes with nesting limit 0, %zu with 64: %zu a level\n", flat, deep, level);
     printf("the other calls: at most %zu bytes\n", rest);
-    return 0;
+    return 1;
+}
+
+int main(int words, char **word) {
+    (void)word;
+    if (words == 1) return !(report(SHORT) && report(LONG));
+    int good = deepest(SHORT) && deepest(LONG);
+    puts(good ? "both end" : "not reversed");
+    return !good;
 }

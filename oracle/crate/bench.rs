@@ -1,9 +1,10 @@
 //! One measured thing, for oracle/bench: `oracle-bench CALL CASE SLOTS SIDE TIMES` does it so many times, each time with the input put back first; with `best` for
 //! TIMES it prints the best time of many of each side, in nanoseconds, and with `calls` how many calls it makes each time, once it is sure that the sides do the same. Sides:
-//! `text` is the crate's text on its own structs; `slots` the same with slots read and written; `port` the library; `checks` the library, refusing by the check
-//! that it makes last; `copy-text` and `copy` only put the input back and make empty calls, for `text` and for the others.
+//! `text` is the crate's text on its own structs; `slots` the same with slots read and written; `port` the library; `port-28` the library on slots with clusters;
+//! `checks` the library, refusing by the check that it makes last; `copy-text`, `copy-28` and `copy` only put the input back and make empty calls, for `text`, `port-28` and
+//! the others. A move has only `port`, `checks` and `copy`.
 use crate::buffer::{self, Buffer, GlyphPosition};
-use crate::cases::Case;
+use crate::cases::{with_clusters, Case};
 use crate::frame::*;
 use crate::loaded::{coverage, Loaded};
 use crate::ot::apply::{ApplyContext, Neighbour};
@@ -15,26 +16,32 @@ use std::hint::black_box;
 #[repr(C)]
 struct GposAnswer([u64; 9]);
 
-/// A line, a subtable, direction, s, u and index; then what the call has besides.
+/// A line, the bytes of a slot, a subtable, direction, s, u and index; then what the call has besides. A move has a line and a target.
 extern "C" {
-    fn gpos_start(line: *mut u8, len: usize) -> u32;
-    fn gpos_finish(line: *mut u8, len: usize, direction: u32, limit: u32, attachments: u32) -> u32;
-    fn gpos_single(l: *mut u8, n: usize, t: *const u8, m: usize, d: u32, s: u32, u: u32, i: usize) -> GposAnswer;
-    fn gpos_pair(l: *mut u8, n: usize, t: *const u8, m: usize, d: u32, s: u32, u: u32, i: usize, missing: u32, second: usize) -> GposAnswer;
-    fn gpos_cursive(l: *mut u8, n: usize, t: *const u8, m: usize, d: u32, s: u32, u: u32, i: usize, missing: u32, prev: usize, flag: u32) -> GposAnswer;
-    fn gpos_mark_base(l: *mut u8, n: usize, t: *const u8, m: usize, d: u32, s: u32, u: u32, i: usize) -> GposAnswer;
-    fn gpos_mark_ligature(l: *mut u8, n: usize, t: *const u8, m: usize, d: u32, s: u32, u: u32, i: usize) -> GposAnswer;
+    fn gpos_start(line: *mut u8, len: usize, size: usize) -> u32;
+    fn gpos_finish(line: *mut u8, len: usize, size: usize, direction: u32, limit: u32, attachments: u32) -> u32;
+    fn gpos_single(l: *mut u8, n: usize, z: usize, t: *const u8, m: usize, d: u32, s: u32, u: u32, i: usize) -> GposAnswer;
+    fn gpos_pair(l: *mut u8, n: usize, z: usize, t: *const u8, m: usize, d: u32, s: u32, u: u32, i: usize, none: u32, second: usize) -> GposAnswer;
+    fn gpos_cursive(l: *mut u8, n: usize, z: usize, t: *const u8, m: usize, d: u32, s: u32, u: u32, i: usize, none: u32, prev: usize, flag: u32) -> GposAnswer;
+    fn gpos_mark_base(l: *mut u8, n: usize, z: usize, t: *const u8, m: usize, d: u32, s: u32, u: u32, i: usize) -> GposAnswer;
+    fn gpos_mark_ligature(l: *mut u8, n: usize, z: usize, t: *const u8, m: usize, d: u32, s: u32, u: u32, i: usize) -> GposAnswer;
+    fn gpos_to_clusters(line: *const u8, len: usize, target: *mut u8, target_len: usize) -> u32;
+    fn gpos_from_clusters(line: *const u8, len: usize, target: *mut u8, target_len: usize) -> u32;
 }
 
+/// The sides that are timed.
 const SIDES: [&str; 6] = ["copy-text", "copy", "text", "slots", "port", "checks"];
 
 struct Bench {
     kind: u8,
     direction: u32,
+    size: usize,
     calls: Vec<(usize, usize)>,
     line: Vec<u8>,
     keep: Vec<u8>,
     subtable: &'static [u8],
+    /// Of a move.
+    target: Vec<u8>,
     positions: Vec<GlyphPosition>,
     /// The context of a whole lookup, with the buffer.
     ctx: ApplyContext<'static>,
@@ -50,20 +57,29 @@ type Side = fn(&mut Bench, Call);
 
 macro_rules! applying {
     ($f:ident, $b:ident, $index:expr $(, $more:expr)*) => {{
-        let answer = unsafe { $f($b.line.as_mut_ptr(), $b.line.len(), $b.subtable.as_ptr(), $b.subtable.len(), $b.direction, 1000, 1000, $index $(, $more)*) };
+        let (line, len, table) = ($b.line.as_mut_ptr(), $b.line.len(), $b.subtable);
+        let answer = unsafe { $f(line, len, $b.size, table.as_ptr(), table.len(), $b.direction, 1000, 1000, $index $(, $more)*) };
         $b.refused += black_box(&answer).0[0] >> 32;
     }};
 }
 
+macro_rules! moving {
+    ($f:ident) => {
+        |b, _, _| b.refused += u64::from(unsafe { $f(b.line.as_ptr(), b.line.len(), b.target.as_mut_ptr(), b.target.len()) })
+    };
+}
+
 fn library(kind: u8) -> Call {
     match kind {
-        START => |b, _, _| b.refused += u64::from(unsafe { gpos_start(b.line.as_mut_ptr(), b.line.len()) }),
-        FINISH => |b, _, _| b.refused += u64::from(unsafe { gpos_finish(b.line.as_mut_ptr(), b.line.len(), b.direction, 64, 1) }),
+        START => |b, _, _| b.refused += u64::from(unsafe { gpos_start(b.line.as_mut_ptr(), b.line.len(), b.size) }),
+        FINISH => |b, _, _| b.refused += u64::from(unsafe { gpos_finish(b.line.as_mut_ptr(), b.line.len(), b.size, b.direction, 64, 1) }),
         SINGLE => |b, index, _| applying!(gpos_single, b, index),
         PAIR => |b, index, near| applying!(gpos_pair, b, index, 0, near),
         CURSIVE => |b, index, near| applying!(gpos_cursive, b, index, 0, near, 0),
         MARK_BASE => |b, index, _| applying!(gpos_mark_base, b, index),
-        _ => |b, index, _| applying!(gpos_mark_ligature, b, index),
+        MARK_LIGATURE => |b, index, _| applying!(gpos_mark_ligature, b, index),
+        TO_CLUSTERS => moving!(gpos_to_clusters),
+        _ => moving!(gpos_from_clusters),
     }
 }
 
@@ -96,10 +112,10 @@ fn each(b: &mut Bench, call: Call) {
 fn each_with_slots(b: &mut Bench, call: Call) {
     for k in 0..b.calls.len() {
         let (index, near) = b.calls[k];
-        load(black_box(&b.line), b.ctx.buffer);
+        load(black_box(&b.line), 24, b.ctx.buffer);
         b.ctx.buffer.scratch_flags = buffer::HB_BUFFER_SCRATCH_FLAG_HAS_GPOS_ATTACHMENT;
         call(b, index, near);
-        store(b.ctx.buffer, &mut b.line);
+        store(b.ctx.buffer, 24, &mut b.line);
     }
 }
 
@@ -118,7 +134,7 @@ impl Bench {
     fn new(case: Case) -> Self {
         let buffer: &'static mut Buffer = Box::leak(Box::new(empty_buffer()));
         let subtable: &'static [u8] = case.subtable.leak();
-        load(&case.line, buffer);
+        load(&case.line, case.size, buffer);
         buffer.direction = direction(case.direction);
         buffer.scratch_flags = buffer::HB_BUFFER_SCRATCH_FLAG_HAS_GPOS_ATTACHMENT;
         let positions = buffer.pos.clone();
@@ -131,6 +147,7 @@ impl Bench {
             attachments: true,
             neighbour: Neighbour::None,
             lookup_flag: 0,
+            size: case.size,
             index: 0,
             line: &[],
             subtable,
@@ -138,15 +155,25 @@ impl Bench {
         Self {
             kind: case.kind,
             direction: case.direction,
+            size: case.size,
             calls: case.calls,
             line: case.line.clone(),
             keep: case.line,
             subtable,
+            target: if case.kind >= TO_CLUSTERS { subtable.to_vec() } else { vec![] },
             positions,
             ctx: context(&request, buffer),
-            loaded: (case.kind >= SINGLE).then(|| (coverage(subtable), Loaded::new(case.kind, subtable, case.kern).unwrap())),
+            loaded: (case.kind >= SINGLE && case.kind < TO_CLUSTERS).then(|| (coverage(subtable), Loaded::new(case.kind, subtable, case.kern).unwrap())),
             refused: 0,
         }
+    }
+    /// A case as a side needs it.
+    fn for_side(name: &str, case: Case) -> Self {
+        Self::new(match name {
+            "checks" => case.spoilt(),
+            "port-28" | "copy-28" => case.with_clusters(),
+            _ => case,
+        })
     }
     /// How a side puts the input back, how it makes the calls, and what one call is.
     fn side(&self, name: &str) -> (fn(&mut Self), Side, Call) {
@@ -155,7 +182,7 @@ impl Bench {
             "text" => (put_back_text, each, text),
             "copy-text" => (put_back_text, each, nothing),
             "slots" => (put_back_line, each_with_slots, text),
-            "port" | "checks" => (put_back_line, each, library),
+            "port" | "port-28" | "checks" => (put_back_line, each, library),
             _ => (put_back_line, each, nothing),
         }
     }
@@ -172,20 +199,24 @@ impl Bench {
         self.run(self.side(name), times);
         began.elapsed().as_nanos() as f64 / times as f64
     }
-    /// The line that a side leaves.
+    /// What the calls write to: the line, or a move's target.
+    fn written(&self) -> Vec<u8> {
+        if self.kind >= TO_CLUSTERS { &self.target } else { &self.line }.clone()
+    }
+    /// What a side leaves there.
     fn left(&mut self, name: &str) -> Vec<u8> {
         self.run(self.side(name), 1);
         if name == "text" {
-            store(self.ctx.buffer, &mut self.line);
+            store(self.ctx.buffer, 24, &mut self.line);
         }
-        self.line.clone()
+        self.written()
     }
 }
 
 /// The best time of one run of each side. Samples take 20 microseconds or more each, and the sides take turns, so that none has the machine's better moments.
 fn best(made: impl Fn() -> Case) -> Vec<f64> {
     let mut sides = SIDES.map(|name| {
-        let mut b = Bench::new(if name == "checks" { made().spoilt() } else { made() });
+        let mut b = Bench::for_side(name, made());
         let mut times = 1;
         while b.sample(name, times) * (times as f64) < 20_000.0 {
             times *= 2;
@@ -200,23 +231,39 @@ fn best(made: impl Fn() -> Case) -> Vec<f64> {
     sides.iter().map(|s| s.3).collect()
 }
 
+/// Do the sides do the same, and do the checks refuse?
+fn alike(made: impl Fn() -> Case) -> bool {
+    let mut b = Bench::new(made());
+    let port = b.left("port");
+    let same = match b.kind {
+        TO_CLUSTERS => port == with_clusters(&b.line),
+        FROM_CLUSTERS => with_clusters(&port) == b.line,
+        _ => {
+            let mut wide = Bench::for_side("port-28", made());
+            b.left("text") == port && b.left("slots") == port && wide.left("port-28") == with_clusters(&port) && wide.refused == 0
+        }
+    };
+    let mut spoilt = Bench::for_side("checks", made());
+    let before = spoilt.written();
+    same && b.refused == 0 && spoilt.left("checks") == before && spoilt.refused > 0
+}
+
 /// A main of C's: the start of Rust's own reads the process's memory map, at which some emulators fail.
 #[no_mangle]
 extern "C" fn main() -> i32 {
     let words: Vec<String> = std::env::args().skip(1).collect();
     let [call, case, slots, side, times] = &words[..] else { panic!("CALL CASE SLOTS SIDE TIMES") };
     let made = || Case::new(call, case, slots.parse().unwrap());
-    let mut b = Bench::new(if side == "checks" { made().spoilt() } else { made() });
     match times.as_str() {
         "best" => println!("{}", best(made).iter().map(f64::to_string).collect::<Vec<_>>().join(" ")),
         "calls" => {
-            let (text, slots, port) = (b.left("text"), b.left("slots"), b.left("port"));
-            assert!(text == slots && slots == port && b.refused == 0, "{call} {case}: the sides differ");
-            let mut spoilt = Bench::new(made().spoilt());
-            assert!(spoilt.left("checks") == spoilt.keep && spoilt.refused > 0, "{call} {case}: the checks find nothing");
-            println!("{}", b.calls.len());
+            assert!(alike(made), "{call} {case}: the sides differ, or the checks find nothing");
+            println!("{}", made().calls.len());
         }
-        _ => b.run(b.side(side), times.parse().unwrap()),
+        _ => {
+            let mut b = Bench::for_side(side, made());
+            b.run(b.side(side), times.parse().unwrap());
+        }
     }
     0
 }

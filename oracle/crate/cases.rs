@@ -4,11 +4,15 @@ use crate::frame::*;
 pub struct Case {
     pub kind: u8,
     pub direction: u32,
+    /// The bytes of a slot.
+    pub size: usize,
     pub line: Vec<u8>,
+    /// Of a move, the target.
     pub subtable: Vec<u8>,
-    /// Index and neighbour of each call; starting and finishing have one.
+    /// Index and neighbour of each call; only applying calls can be several.
     pub calls: Vec<(usize, usize)>,
-    /// Where the entry of a list is that the last check looks at; 0 there is refused with 6. In starting and finishing the last slot's flags are looked at last.
+    /// Where the entry of a list is that the last check looks at; 0 there is refused with 6. In starting and finishing the last slot's flags are looked at last, in
+    /// moving the target's length, or the last slot's cluster.
     last: usize,
     /// Is the text that of the crate's own types for kerning?
     pub kern: bool,
@@ -37,6 +41,12 @@ fn line(slots: usize, slot: impl Fn(usize) -> Slot) -> Vec<u8> {
         }
     }
     out
+}
+
+/// The same line on slots with clusters, each its slot's number.
+pub fn with_clusters(line: &[u8]) -> Vec<u8> {
+    let numbered = line.chunks_exact(24).zip(0u32..);
+    numbered.flat_map(|(slot, k)| [slot, &k.to_be_bytes()].concat()).collect()
 }
 
 fn words(of: impl IntoIterator<Item = usize>) -> Vec<u8> {
@@ -144,18 +154,26 @@ impl Case {
             ("cursive", _) => (CURSIVE, pair(2), cursive(), vec![(1, 0)], 2),
             ("mark_base", _) => (MARK_BASE, line(slots, marked), marks(MARK_BASE), each_mark, 2),
             ("mark_ligature", _) => (MARK_LIGATURE, line(slots, marked), marks(MARK_LIGATURE), each_mark, 2),
+            ("to_clusters", _) => (TO_CLUSTERS, line(slots, marked), vec![0; 28 * slots], vec![(0, 0)], 0),
+            ("from_clusters", _) => (FROM_CLUSTERS, with_clusters(&line(slots, marked)), vec![0; 24 * slots], vec![(0, 0)], 0),
             _ => panic!("no case {call} {case}"),
         };
         let last = subtable.len() - from_end;
-        Self { kind, direction: u32::from(case == "against"), line, subtable, calls, last, kern: case.ends_with("kern") }
+        let size = if kind == FROM_CLUSTERS { 28 } else { 24 };
+        Self { kind, direction: u32::from(case == "against"), size, line, subtable, calls, last, kern: case.ends_with("kern") }
+    }
+    /// The same on slots with clusters.
+    pub fn with_clusters(self) -> Self {
+        Self { size: 28, line: with_clusters(&self.line), ..self }
     }
     /// The same, refused by the check that is made last.
     pub fn spoilt(mut self) -> Self {
-        if self.kind < SINGLE {
-            let flags = self.line.len() - 20;
-            self.line[flags] = 8;
-        } else {
-            self.subtable[self.last..self.last + 2].fill(0);
+        let end = self.line.len();
+        match self.kind {
+            START | FINISH => self.line[end - self.size + 4] = 8,
+            TO_CLUSTERS => self.subtable.truncate(self.subtable.len() - 1),
+            FROM_CLUSTERS => self.line[end - 1] ^= 1,
+            _ => self.subtable[self.last..self.last + 2].fill(0),
         }
         self
     }

@@ -8,6 +8,8 @@ pub const PAIR: u8 = 3;
 pub const CURSIVE: u8 = 4;
 pub const MARK_BASE: u8 = 5;
 pub const MARK_LIGATURE: u8 = 6;
+pub const TO_CLUSTERS: u8 = 7;
+pub const FROM_CLUSTERS: u8 = 8;
 /// Asks which kinds are answered.
 pub const KINDS: u8 = 255;
 
@@ -26,8 +28,11 @@ pub struct Request<'a> {
     pub attachments: bool,
     pub neighbour: Neighbour,
     pub lookup_flag: u32,
+    /// The bytes of a slot.
+    pub size: usize,
     pub index: usize,
     pub line: &'a [u8],
+    /// The subtable; of a move, the target as lent.
     pub subtable: &'a [u8],
 }
 
@@ -42,10 +47,10 @@ fn be64(b: &[u8], at: usize) -> u64 {
 }
 
 pub fn parse(b: &[u8]) -> Request<'_> {
-    let n = be32(b, 48) as usize;
-    let m = be32(b, 52) as usize;
-    assert_eq!(b.len(), 56 + n + m);
-    let near = be64(b, 40) as usize;
+    let n = be32(b, 56) as usize;
+    let m = be32(b, 60) as usize;
+    assert_eq!(b.len(), 64 + n + m);
+    let near = be64(b, 48) as usize;
     Request {
         kind: b[0],
         direction: be32(b, 4),
@@ -55,9 +60,10 @@ pub fn parse(b: &[u8]) -> Request<'_> {
         attachments: be32(b, 20) != 0,
         neighbour: if be32(b, 24) == 0 { Neighbour::At(near) } else { Neighbour::Missing(near) },
         lookup_flag: be32(b, 28),
-        index: be64(b, 32) as usize,
-        line: &b[56..56 + n],
-        subtable: &b[56 + n..],
+        size: be64(b, 32) as usize,
+        index: be64(b, 40) as usize,
+        line: &b[64..64 + n],
+        subtable: &b[64 + n..],
     }
 }
 
@@ -72,7 +78,13 @@ pub struct Said<'a> {
     pub hazards: &'a [(u8, usize, usize)],
 }
 
-pub fn write(out: &mut Vec<u8>, said: Said, line: &[u8]) {
+/// The refusal with this number.
+pub fn refused(number: u64) -> Said<'static> {
+    Said { status: REFUSED, refusal: number, ..Said::default() }
+}
+
+/// Writes what a call says, and the line afterwards; of a move, the target.
+pub fn write(out: &mut Vec<u8>, said: Said, after: &[u8]) {
     let mut put = |v: u64| out.extend(v.to_be_bytes());
     put(said.status);
     put(said.refusal);
@@ -86,5 +98,5 @@ pub fn write(out: &mut Vec<u8>, said: Said, line: &[u8]) {
         put(end);
     }
     put(0); // nothing lent was harmed
-    out.extend(line);
+    out.extend(after);
 }

@@ -364,6 +364,7 @@ mod ot {
 
 mod frame;
 mod loaded;
+mod moves;
 mod refusal;
 mod serve;
 

@@ -81,10 +81,18 @@ fn index_ok(r: &Request, slots: usize) -> bool {
         }
 }
 
-/// The number of the refusal, or 0.
+/// Is the line up to 1,024 whole slots of this size, and is there such a size?
+pub fn line_ok(line: &[u8], size: usize) -> bool {
+    matches!(size, 24 | 28) && line.len() % size == 0 && line.len() / size <= 1024
+}
+
+pub fn slots_ok(line: &[u8], size: usize) -> bool {
+    line.chunks_exact(size).all(|s| s[2] <= 7 && s[3] <= 15 && s[4] <= 7)
+}
+
+/// The number of the refusal, or 0, of a call that is no move.
 pub fn refusal(r: &Request) -> u64 {
-    let slots = r.line.len() / 24;
-    if r.line.len() % 24 != 0 || slots > 1024 {
+    if !line_ok(r.line, r.size) {
         return 1;
     }
     if r.kind != START && r.direction > 3 {
@@ -96,10 +104,10 @@ pub fn refusal(r: &Request) -> u64 {
     if r.kind >= SINGLE && !((1..=32_768).contains(&r.s) && (16..=16_384).contains(&r.u)) {
         return 3;
     }
-    if r.line.chunks_exact(24).any(|s| s[2] > 7 || s[3] > 15 || s[4] > 7) {
+    if !slots_ok(r.line, r.size) {
         return 4;
     }
-    if r.kind >= SINGLE && !index_ok(r, slots) {
+    if r.kind >= SINGLE && !index_ok(r, r.line.len() / r.size) {
         return 5;
     }
     if r.kind >= SINGLE && !subtable_ok(r.kind, r.subtable) {

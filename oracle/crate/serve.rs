@@ -2,16 +2,19 @@
 use crate::buffer::{self, Buffer, GlyphInfo, GlyphPosition};
 use crate::frame::*;
 use crate::loaded::{coverage, Loaded};
+use crate::moves::moved;
 use crate::ot;
 use crate::ot::apply::ApplyContext;
 use crate::refusal::refusal;
 use crate::{Direction, LayoutData, OtData, Scale};
 use std::io::{Read, Write};
 
-pub fn load(line: &[u8], buffer: &mut Buffer) {
+/// Inlined, so that where it is measured the size is a constant, as in a program of one form.
+#[inline(always)]
+pub fn load(line: &[u8], size: usize, buffer: &mut Buffer) {
     buffer.info.clear();
     buffer.pos.clear();
-    for s in line.chunks_exact(24) {
+    for s in line.chunks_exact(size) {
         let mut info = GlyphInfo { glyph_id: be16(s, 0).into(), mask: u32::from(s[4] & 1), ..GlyphInfo::default() };
         info.set_lig_props_for_mark(s[2], s[3]);
         let mut props = 0;
@@ -37,8 +40,10 @@ pub fn load(line: &[u8], buffer: &mut Buffer) {
     buffer.scratch_flags = 0;
 }
 
-pub fn store(buffer: &Buffer, line: &mut [u8]) {
-    for (s, p) in line.chunks_exact_mut(24).zip(&buffer.pos) {
+/// Writes back what a call may change; a cluster stays.
+#[inline(always)]
+pub fn store(buffer: &Buffer, size: usize, line: &mut [u8]) {
+    for (s, p) in line.chunks_exact_mut(size).zip(&buffer.pos) {
         s[5] = p.attach_type();
         s[6..8].copy_from_slice(&p.attach_chain().to_be_bytes());
         s[8..12].copy_from_slice(&p.x_advance.to_be_bytes());
@@ -88,12 +93,12 @@ fn finish(r: &Request, buffer: &mut Buffer, line: &mut [u8]) {
     }
     let before = buffer.pos.clone();
     ot::gpos::at_limit::position_finish_offsets(buffer, r.limit as usize);
-    store(buffer, line);
+    store(buffer, r.size, line);
     if r.limit as usize == ot::layout::MAX_NESTING_LEVEL {
         buffer.pos = before;
         ot::gpos::position_finish_offsets(buffer);
         let mut again = r.line.to_vec();
-        store(buffer, &mut again);
+        store(buffer, r.size, &mut again);
         assert!(again == line);
     }
 }
@@ -108,11 +113,11 @@ fn applying(r: &Request, buffer: &mut Buffer, out: &mut Vec<u8>) {
     let got = std::panic::catch_unwind(std::panic::AssertUnwindSafe(|| apply(r, &mut context(r, &mut *buffer))));
     bytemuck::FUEL.with(|f| f.set(u64::MAX));
     match got {
-        Err(p) if p.is::<bytemuck::OutOfFuel>() => write(out, Said { status: REFUSED, refusal: 7, ..Said::default() }, r.line),
+        Err(p) if p.is::<bytemuck::OutOfFuel>() => write(out, refused(7), r.line),
         Err(p) => std::panic::resume_unwind(p),
         Ok(done) => {
             let mut line = r.line.to_vec();
-            store(buffer, &mut line);
+            store(buffer, r.size, &mut line);
             let attached = buffer.scratch_flags & buffer::HB_BUFFER_SCRATCH_FLAG_HAS_GPOS_ATTACHMENT != 0;
             let hazards = &buffer.hazards[..buffer.hazard_count];
             let (status, next) = if done.is_some() { (APPLIED, buffer.idx) } else { (DECLINED, 0) };
@@ -123,11 +128,17 @@ fn applying(r: &Request, buffer: &mut Buffer, out: &mut Vec<u8>) {
 
 pub fn serve(request: &[u8], buffer: &mut Buffer, out: &mut Vec<u8>) {
     let r = parse(request);
+    if r.kind >= TO_CLUSTERS {
+        return match moved(&r) {
+            Ok(target) => write(out, Said { status: DONE, ..Said::default() }, &target),
+            Err(number) => write(out, refused(number), r.subtable),
+        };
+    }
     let number = refusal(&r);
     if number != 0 {
-        return write(out, Said { status: REFUSED, refusal: number, ..Said::default() }, r.line);
+        return write(out, refused(number), r.line);
     }
-    load(r.line, buffer);
+    load(r.line, r.size, buffer);
     buffer.idx = r.index;
     buffer.direction = direction(r.direction);
     if r.kind >= SINGLE {
@@ -136,7 +147,7 @@ pub fn serve(request: &[u8], buffer: &mut Buffer, out: &mut Vec<u8>) {
     let mut line = r.line.to_vec();
     if r.kind == START {
         ot::gpos::position_start(buffer);
-        store(buffer, &mut line);
+        store(buffer, r.size, &mut line);
     } else {
         finish(&r, buffer, &mut line);
     }
@@ -159,7 +170,7 @@ pub fn answer_frames() {
         input.read_exact(&mut request).unwrap();
         out.clear();
         if request[0] == KINDS {
-            output.write_all(&[0, 0, 0, 7, 1, 1, 1, 1, 1, 1, 1]).unwrap();
+            output.write_all(&[0, 0, 0, 9, 1, 1, 1, 1, 1, 1, 1, 1, 1]).unwrap();
             continue;
         }
         serve(&request, &mut buffer, &mut out);

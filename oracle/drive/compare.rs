@@ -1,7 +1,7 @@
 //! Runs: what is asked, in which order, and what came of it.
 use crate::call::*;
 use crate::rng::Rng;
-use crate::sets::{random, sets};
+use crate::sets::{made, random, sets};
 use crate::sides::Side;
 use std::collections::BTreeMap;
 use std::sync::atomic::{AtomicUsize, Ordering};
@@ -10,7 +10,7 @@ use std::sync::Mutex;
 /// Some calls of one kind, made when they are due.
 #[derive(Clone, Copy)]
 pub enum Job {
-    Set { kind: usize, set: usize, from: usize, to: usize, every: usize },
+    Set { kind: usize, form: usize, set: usize, from: usize, to: usize, every: usize },
     Random { kind: usize, seed: u64, count: usize },
 }
 
@@ -19,9 +19,9 @@ const BATCH: usize = 1000;
 impl Job {
     pub fn calls(self) -> Vec<Call> {
         match self {
-            Job::Set { kind, set, from, to, every } => {
-                let make = sets(kind)[set].make;
-                (from..to).map(|k| make(kind, k * every)).collect()
+            Job::Set { kind, form, set, from, to, every } => {
+                let set = &sets(kind)[set];
+                (from..to).map(|k| made(set, kind, form, k * every)).collect()
             }
             Job::Random { kind, seed, count } => {
                 let mut r = Rng::new(seed);
@@ -31,15 +31,21 @@ impl Job {
     }
 }
 
-/// The jobs of a run: every set (of its calls each `every`-th), then `calls` random ones, shared by the kinds.
+fn set_jobs(kind: usize, form: usize, every: usize, jobs: &mut Vec<Job>) {
+    for (set, s) in sets(kind).iter().enumerate() {
+        let count = s.count.div_ceil(every);
+        for from in (0..count).step_by(BATCH) {
+            jobs.push(Job::Set { kind, form, set, from, to: (from + BATCH).min(count), every });
+        }
+    }
+}
+
+/// The jobs of a run: every set in each form (of its calls each `every`-th), then `calls` random ones, shared by the kinds.
 pub fn plan(kinds: &[usize], calls: usize, seed: u64, every: usize) -> Vec<Job> {
     let mut jobs = vec![];
     for &kind in kinds {
-        for (set, s) in sets(kind).iter().enumerate() {
-            let count = s.count.div_ceil(every);
-            for from in (0..count).step_by(BATCH) {
-                jobs.push(Job::Set { kind, set, from, to: (from + BATCH).min(count), every });
-            }
+        for &form in forms(kind) {
+            set_jobs(kind, form, every, &mut jobs);
         }
     }
     let mut left = calls;
@@ -53,8 +59,8 @@ pub fn plan(kinds: &[usize], calls: usize, seed: u64, every: usize) -> Vec<Job> 
     jobs
 }
 
-/// How often each kind had each outcome.
-pub type Tally = BTreeMap<(usize, String), usize>;
+/// How often each kind had each outcome in each form.
+pub type Tally = BTreeMap<(usize, usize, String), usize>;
 
 pub struct Found {
     pub call: Call,
@@ -74,7 +80,7 @@ fn work(jobs: &[Job], next: &AtomicUsize, oracle: &[String], port: &[String], ta
             (theirs.join().unwrap(), ours)
         });
         for ((call, ours), theirs) in calls.into_iter().zip(ours).zip(theirs) {
-            *own.entry((call.kind, theirs.outcome())).or_default() += 1;
+            *own.entry((call.kind, call.form(), theirs.outcome())).or_default() += 1;
             if ours != theirs {
                 found.lock().unwrap().get_or_insert(Found { call, ours, theirs });
                 break;
@@ -99,12 +105,12 @@ pub fn run(jobs: &[Job], oracle: &[String], port: &[String], workers: usize) -> 
 }
 
 pub fn show(tally: &Tally) {
-    let mut last = usize::MAX;
-    for ((kind, outcome), n) in tally {
-        if *kind != last {
-            let all: usize = tally.iter().filter(|((k, _), _)| k == kind).map(|(_, n)| n).sum();
-            println!("{:14} {all:9} calls", NAMES[*kind]);
-            last = *kind;
+    let mut last = None;
+    for ((kind, form, outcome), n) in tally {
+        if last != Some((kind, form)) {
+            let all: usize = tally.iter().filter(|((k, f, _), _)| (k, f) == (kind, form)).map(|(_, n)| n).sum();
+            println!("{:14} {} {all:9} calls", NAMES[*kind], form_name(*form));
+            last = Some((kind, form));
         }
         println!("    {outcome:30} {n:9}");
     }

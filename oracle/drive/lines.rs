@@ -15,12 +15,34 @@ pub struct Slot {
     pub measures: [i32; 4],
 }
 
-pub fn push(line: &mut Vec<u8>, s: Slot) {
+/// Sizes of slots that there aren't. Some are a form's once they are cut to 8 or 32 bits.
+pub const WRONG_SIZES: [u64; 17] = [0, 1, 2, 12, 23, 25, 26, 27, 29, 32, 48, 56, 256 + 24, 256 + 28, (1 << 32) + 24, (1 << 32) + 28, u64::MAX];
+
+/// Adds a slot in so many bytes, with its number for a cluster: cut where they are less than a slot with a cluster has, filled up with zeros where they are more.
+pub fn push(line: &mut Vec<u8>, size: usize, s: Slot) {
+    let (start, number) = (line.len(), line.len() / size);
     line.extend(s.glyph.to_be_bytes());
     line.extend([s.ligature_id, s.component, s.flags, s.kind]);
     line.extend(s.chain.to_be_bytes());
     for m in s.measures {
         line.extend(m.to_be_bytes());
+    }
+    line.extend((number as u32).to_be_bytes());
+    line.resize(start + size, 0);
+}
+
+/// Gives each slot a random cluster, where there are clusters and the call doesn't look at them.
+pub fn scatter_clusters(r: &mut Rng, call: &mut Call) {
+    if is_move(call.kind) || call.form() != FORMS[1] {
+        return;
+    }
+    for slot in call.each_slot() {
+        let cluster = match r.below(8) {
+            0 => r.below(16) as u32,
+            1 => r.pick(&[0, 255, 256, 1 << 31, u32::MAX]),
+            _ => r.next() as u32,
+        };
+        slot[24..].copy_from_slice(&cluster.to_be_bytes());
     }
 }
 
@@ -84,10 +106,11 @@ fn pattern(r: &mut Rng, i: usize, n: usize, which: usize, s: &mut Slot) {
     };
 }
 
-pub fn line(r: &mut Rng, odds: usize) -> Vec<u8> {
+/// A line without a fault.
+fn good_line(r: &mut Rng, size: usize) -> Vec<u8> {
     let n = count(r);
     let which = if r.once_in(4) { r.below(6) } else { 9 };
-    let mut out = Vec::with_capacity(24 * n + 24);
+    let mut out = Vec::with_capacity(size * n + size);
     for i in 0..n {
         let mut s = Slot {
             glyph: glyph(r),
@@ -106,10 +129,15 @@ pub fn line(r: &mut Rng, odds: usize) -> Vec<u8> {
         if which < 9 && !r.once_in(12) {
             pattern(r, i, n, which, &mut s);
         }
-        push(&mut out, s);
+        push(&mut out, size, s);
     }
-    if n > 0 && r.once_in(odds) {
-        let at = 24 * r.below(n);
+    out
+}
+
+fn line(r: &mut Rng, size: usize, odds: usize) -> Vec<u8> {
+    let mut out = good_line(r, size);
+    if !out.is_empty() && r.once_in(odds) {
+        let at = size * r.below(out.len() / size);
         match r.below(3) {
             0 => out[at + 2] = r.pick(&[8, 16, 255]),
             1 => out[at + 3] = r.pick(&[16, 17, 255]),
@@ -117,7 +145,7 @@ pub fn line(r: &mut Rng, odds: usize) -> Vec<u8> {
         }
     }
     if r.once_in(odds) {
-        let cut = 1 + r.below(23);
+        let cut = 1 + r.below(size - 1);
         if r.once_in(2) {
             out.resize(out.len() + cut, 0);
         } else {
@@ -160,9 +188,20 @@ fn neighbour(r: &mut Rng, call: &mut Call, odds: usize) {
     };
 }
 
+/// A call of the kind on a line of either form. Where the size is wrong, it may be the other form's.
+fn on_line(r: &mut Rng, kind: usize, odds: usize) -> Call {
+    let form = r.pick(forms(kind));
+    let mut call = Call { kind, size: form as u64, line: line(r, form, odds), ..Call::default() };
+    scatter_clusters(r, &mut call);
+    if !is_move(kind) && r.once_in(2 * odds) {
+        call.size = if r.once_in(4) { r.pick(&FORMS) as u64 } else { r.pick(&WRONG_SIZES) };
+    }
+    call
+}
+
 /// Everything but the subtable, of any kind. `odds` is how seldom a thing is wrong.
 pub fn arguments(r: &mut Rng, kind: usize, odds: usize) -> Call {
-    let mut call = Call { kind, line: line(r, odds), ..Call::default() };
+    let mut call = on_line(r, kind, odds);
     let n = call.slots();
     call.direction = if r.once_in(odds) { r.pick(&[4, 5, 255, 256, u32::MAX]) } else { r.below(4) as u32 };
     call.s = scale(r, 1, 32768, odds);

@@ -3,6 +3,7 @@ mod call;
 mod compare;
 mod lines;
 mod list;
+mod moves;
 mod planted;
 mod rng;
 mod sets;
@@ -80,12 +81,12 @@ fn show(call: &Call, oracle: &mut Side, port: &mut Side) -> bool {
     let one = std::slice::from_ref(call);
     let (theirs, ours) = (oracle.ask(one).remove(0), port.ask(one).remove(0));
     println!("{}", call.describe());
-    println!("  line      {}\n  subtable  {}", hex(&call.line), hex(&call.subtable));
+    println!("  line      {}\n  {:8}  {}", hex(&call.line), if is_move(call.kind) { "target" } else { "subtable" }, hex(&call.subtable));
     for (name, a) in [("oracle", &theirs), ("port", &ours)] {
         println!("  {name:8}  {}, next {}, hazards {:?}", a.outcome(), a.next, &a.hazard[..a.hazards.min(2) as usize]);
         println!("            {}", hex(&a.line));
     }
-    match ours.difference(&theirs) {
+    match ours.difference(&theirs, call.written().1) {
         None => println!("alike"),
         Some(d) => println!("they differ (port and oracle): {d}"),
     }

@@ -4,7 +4,8 @@ use crate::call::*;
 use crate::compare::plan;
 use crate::sides::Side;
 
-/// A fault in some kinds. `ask` changes the call that the port gets; `say` changes its answer, and also undoes what `ask` did to bytes that a call leaves.
+/// A fault in some kinds, in every form that its table is for. `ask` changes the call that the port gets; `say` changes its answer, and also undoes what `ask` did
+/// to bytes that a call leaves.
 struct Fault {
     name: &'static str,
     kinds: &'static [usize],
@@ -15,30 +16,38 @@ struct Fault {
 const ALL: &[usize] = &[START, FINISH, SINGLE, PAIR, CURSIVE, MARK_BASE, MARK_LIGATURE];
 const APPLYING: &[usize] = &[SINGLE, PAIR, CURSIVE, MARK_BASE, MARK_LIGATURE];
 const MARKS: &[usize] = &[MARK_BASE, MARK_LIGATURE];
+const MOVES: &[usize] = &[TO_CLUSTERS, FROM_CLUSTERS];
 
 fn as_is(_: &mut Call) {}
 fn kept(_: &Call, _: &mut Answer) {}
 
 /// Puts the bytes `from` to `to` of every slot back, as the call had them.
 fn restore(c: &Call, a: &mut Answer, from: usize, to: usize) {
-    for i in 0..c.slots().min(a.line.len() / 24) {
-        a.line[24 * i + from..24 * i + to].copy_from_slice(&c.line[24 * i + from..24 * i + to]);
+    let (n, m) = (c.stride(), c.written().1);
+    for (was, is) in c.line.chunks_exact(n).zip(a.line.chunks_exact_mut(m)) {
+        is[from..to].copy_from_slice(&was[from..to]);
     }
 }
 
 fn each_slot(c: &mut Call, change: fn(&mut [u8])) {
-    c.line.chunks_exact_mut(24).for_each(change);
+    c.each_slot().for_each(change);
+}
+
+/// The slots of an answer.
+fn slots_of<'a>(c: &Call, a: &'a mut Answer) -> std::slice::ChunksExactMut<'a, u8> {
+    a.line.chunks_exact_mut(c.written().1)
 }
 
 fn types(change: fn(u8) -> u8, c: &mut Call) {
-    c.line.chunks_exact_mut(24).for_each(|s| s[5] = change(s[5]));
+    c.each_slot().for_each(|s| s[5] = change(s[5]));
 }
 
 /// The types of all slots but the current one, which a mark attachment sets.
 fn restore_types(c: &Call, a: &mut Answer) {
+    let n = c.stride();
     for i in 0..c.slots() {
         if c.kind == FINISH || i as u64 != c.index || a.status != APPLIED {
-            a.line[24 * i + 5] = c.line[24 * i + 5];
+            a.line[n * i + 5] = c.line[n * i + 5];
         }
     }
 }
@@ -48,41 +57,102 @@ fn chain(s: &[u8]) -> i16 {
 }
 
 fn bad_slot(c: &Call) -> bool {
-    c.line.chunks_exact(24).any(|s| s[2] > 7 || s[3] > 15 || s[4] > 7)
+    c.line.chunks_exact(c.stride()).any(|s| s[2] > 7 || s[3] > 15 || s[4] > 7)
 }
 
 /// Turns chains to one parent into chains to another, by slot number.
 fn parents(c: &mut Call, change: fn(parent: i64, slots: i64) -> i64) {
-    let n = c.slots() as i64;
-    for (i, s) in c.line.chunks_exact_mut(24).enumerate() {
+    let slots = c.slots() as i64;
+    for (i, s) in c.each_slot().enumerate() {
         if chain(s) != 0 {
-            let to = change(i as i64 + i64::from(chain(s)), n) - i as i64;
+            let to = change(i as i64 + i64::from(chain(s)), slots) - i as i64;
             s[6..8].copy_from_slice(&(to as i16).to_be_bytes());
         }
     }
 }
 
-fn refuse(a: &mut Answer, number: u64) {
+/// The slot that a call is about: the last where it is about all.
+fn own_slot(c: &Call) -> usize {
+    let last = c.slots().saturating_sub(1);
+    if is_applying(c.kind) {
+        last.min(c.index as usize)
+    } else {
+        last
+    }
+}
+
+/// Changes a byte of a cluster where the call has this status.
+fn touch(c: &Call, a: &mut Answer, status: u64, slot: usize, byte: usize) {
+    if a.status == status && c.slots() > 0 {
+        a.line[FORMS[1] * slot + 24 + byte] ^= 1;
+    }
+}
+
+fn put_cluster(slot: &mut [u8], cluster: usize) {
+    slot[24..].copy_from_slice(&(cluster as u32).to_be_bytes());
+}
+
+/// The line with slots of other bytes; what they lack is 0.
+fn resized(line: &[u8], from: usize, to: usize) -> Vec<u8> {
+    line.chunks(from).flat_map(|s| s.iter().copied().chain(std::iter::repeat(0)).take(to)).collect()
+}
+
+/// Is the line whole slots of this size, as the call says?
+fn is_whole(c: &Call, size: usize) -> bool {
+    c.size == size as u64 && c.line.len() % size == 0
+}
+
+/// A size that there isn't is taken as if a slot had a cluster; and the line that comes back, as it was lent.
+fn allow(c: &mut Call, size: usize) {
+    if is_whole(c, size) {
+        c.line = resized(&c.line, size, FORMS[1]);
+        c.size = FORMS[1] as u64;
+    }
+}
+
+fn allowed(c: &Call, a: &mut Answer, size: usize) {
+    if is_whole(c, size) {
+        a.line = resized(&a.line, FORMS[1], size);
+    }
+}
+
+/// The length that a move's target must have.
+fn moved_len(c: &Call) -> usize {
+    c.slots() * c.written().1
+}
+
+/// Do clusters count the slots from this number on?
+fn counts_from(c: &Call, first: u32) -> bool {
+    c.line.chunks_exact(FORMS[1]).zip(first..).all(|(s, k)| s[24..] == k.to_be_bytes())
+}
+
+fn count(c: &mut Call) {
+    c.each_slot().enumerate().for_each(|(i, s)| put_cluster(s, i));
+}
+
+fn refuse(c: &Call, a: &mut Answer, number: u64) {
     (a.status, a.refusal) = (REFUSED, number);
+    a.line = c.written().0.to_vec();
 }
 
 fn number16(t: &[u8], at: usize) -> u16 {
     t.get(at..at + 2).map_or(0, |b| u16::from_be_bytes([b[0], b[1]]))
 }
 
+/// Faults in either form.
 #[rustfmt::skip]
 const FAULTS: &[Fault] = &[
-    Fault { name: "the last slot keeps its type", kinds: &[START], ask: as_is, say: |c, a| if c.slots() > 0 { let at = 24 * (c.slots() - 1) + 5; a.line[at] = c.line[at] } },
-    Fault { name: "a chain below 0 keeps its low byte", kinds: &[START], ask: as_is, say: |c, a| for i in 0..c.slots() { if c.line[24 * i + 6] > 127 { a.line[24 * i + 7] = c.line[24 * i + 7] } } },
-    Fault { name: "slots from 1,000 on are not started", kinds: &[START], ask: as_is, say: |c, a| for k in 24_000..c.line.len() { a.line[k] = c.line[k] } },
-    Fault { name: "1,024 slots are one too many", kinds: ALL, ask: as_is, say: |c, a| if c.slots() == 1024 { refuse(a, 1) } },
-    Fault { name: "1,025 slots are allowed", kinds: &[START, FINISH], ask: as_is, say: |c, a| if c.line.len() == 24_600 && !bad_slot(c) { (a.status, a.refusal) = (DONE, 0) } },
+    Fault { name: "the last slot keeps its type", kinds: &[START], ask: as_is, say: |c, a| if c.slots() > 0 { let at = c.stride() * (c.slots() - 1) + 5; a.line[at] = c.line[at] } },
+    Fault { name: "a chain below 0 keeps its low byte", kinds: &[START], ask: as_is, say: |c, a| for i in 0..c.slots() { let at = c.stride() * i + 6; if c.line[at] > 127 { a.line[at + 1] = c.line[at + 1] } } },
+    Fault { name: "slots from 1,000 on are not started", kinds: &[START], ask: as_is, say: |c, a| for k in 1000 * c.stride()..c.line.len() { a.line[k] = c.line[k] } },
+    Fault { name: "1,024 slots are one too many", kinds: ALL, ask: as_is, say: |c, a| if c.slots() == 1024 { refuse(c, a, 1) } },
+    Fault { name: "1,025 slots are allowed", kinds: &[START, FINISH], ask: as_is, say: |c, a| if c.line.len() == 1025 * c.stride() && !bad_slot(c) { (a.status, a.refusal) = (DONE, 0) } },
     Fault { name: "a component of 16 is allowed", kinds: ALL, ask: |c| each_slot(c, |s| if s[3] == 16 { s[3] = 15 }), say: |c, a| restore(c, a, 3, 4) },
     Fault { name: "flag bit 3 is allowed", kinds: ALL, ask: |c| each_slot(c, |s| s[4] &= 0xF7), say: |c, a| restore(c, a, 4, 5) },
     Fault { name: "refusal 4 comes before 1", kinds: ALL, ask: as_is, say: |c, a| if a.refusal == 1 && bad_slot(c) { a.refusal = 4 } },
     Fault { name: "refusal 3 comes before 2", kinds: &[FINISH], ask: as_is, say: |c, a| if a.refusal == 2 && c.limit > 64 { a.refusal = 3 } },
     Fault { name: "refusal 4 comes before 3", kinds: &[FINISH], ask: as_is, say: |c, a| if a.refusal == 3 && bad_slot(c) { a.refusal = 4 } },
-    Fault { name: "a refused line is started", kinds: &[START], ask: as_is, say: |c, a| if a.status == REFUSED { for s in a.line.chunks_exact_mut(24).take(c.slots()) { s[5] = 0 } } },
+    Fault { name: "a refused line is started", kinds: &[START], ask: as_is, say: |c, a| if a.status == REFUSED { slots_of(c, a).for_each(|s| s[5] = 0) } },
 
     Fault { name: "limit 64 is 63", kinds: &[FINISH], ask: |c| if c.limit == 64 { c.limit = 63 }, say: kept },
     Fault { name: "a limit is one more", kinds: &[FINISH], ask: |c| if c.limit < 64 { c.limit += 1 }, say: kept },
@@ -91,7 +161,7 @@ const FAULTS: &[Fault] = &[
     Fault { name: "type 3 is a mark", kinds: &[FINISH], ask: |c| types(|t| if t == 3 { 1 } else { t }, c), say: restore_types },
     Fault { name: "only two bits of a type are looked at", kinds: &[FINISH], ask: |c| types(|t| t & 3, c), say: restore_types },
     Fault { name: "the flag is its low byte", kinds: &[FINISH], ask: |c| c.attachments &= 255, say: kept },
-    Fault { name: "without the flag chains are cleared", kinds: &[FINISH], ask: as_is, say: |c, a| if c.attachments == 0 && a.status == DONE { a.line.chunks_exact_mut(24).for_each(|s| s[6..8].fill(0)) } },
+    Fault { name: "without the flag chains are cleared", kinds: &[FINISH], ask: as_is, say: |c, a| if c.attachments == 0 && a.status == DONE { slots_of(c, a).for_each(|s| s[6..8].fill(0)) } },
     Fault { name: "the first slot's chain stays", kinds: &[FINISH], ask: as_is, say: |c, a| if c.slots() > 0 { let at = 6; a.line[at] = c.line[at]; a.line[at + 1] = c.line[at + 1] } },
     Fault { name: "a parent just past the end is the last slot", kinds: &[FINISH], ask: |c| parents(c, |p, n| if p == n { n - 1 } else { p }), say: |c, a| if a.status == REFUSED || c.attachments == 0 { restore(c, a, 6, 8) } },
     Fault { name: "a parent just before the start is the first slot", kinds: &[FINISH], ask: |c| parents(c, |p, _| if p == -1 { 0 } else { p }), say: |c, a| if a.status == REFUSED || c.attachments == 0 { restore(c, a, 6, 8) } },
@@ -123,7 +193,7 @@ const FAULTS: &[Fault] = &[
     Fault { name: "a pair of zeros is a break", kinds: &[PAIR], ask: as_is, say: |_, a| if a.status == APPLIED { a.hazard[0][0] = 1 } },
     Fault { name: "an empty range is no hazard", kinds: &[PAIR, CURSIVE], ask: as_is, say: |_, a| if a.hazards == 1 && a.hazard[0][1] >= a.hazard[0][2] { a.hazards = 0; a.hazard[0] = [0; 3] } },
     Fault { name: "attaching is not reported", kinds: &[CURSIVE, MARK_BASE, MARK_LIGATURE], ask: as_is, say: |_, a| a.attached = 0 },
-    Fault { name: "the parent's chain is left", kinds: &[CURSIVE], ask: as_is, say: |c, a| if a.status == APPLIED { let p = 24 * if c.lookup_flag & 1 == 1 { c.index } else { c.neighbour } as usize; a.line[p + 6..p + 8].copy_from_slice(&c.line[p + 6..p + 8]) } },
+    Fault { name: "the parent's chain is left", kinds: &[CURSIVE], ask: as_is, say: |c, a| if a.status == APPLIED { let p = c.stride() * if c.lookup_flag & 1 == 1 { c.index } else { c.neighbour } as usize; a.line[p + 6..p + 8].copy_from_slice(&c.line[p + 6..p + 8]) } },
     Fault { name: "the seen bit is not looked at", kinds: MARKS, ask: |c| each_slot(c, |s| if s[4] < 8 { s[4] |= 1 }), say: |c, a| restore(c, a, 4, 5) },
     Fault { name: "the multiplied bit is not looked at", kinds: MARKS, ask: |c| each_slot(c, |s| if s[4] < 8 { s[4] &= 3 }), say: |c, a| restore(c, a, 4, 5) },
     Fault { name: "the mark bit is not looked at", kinds: &[MARK_BASE], ask: |c| each_slot(c, |s| if s[4] < 8 { s[4] &= 5 }), say: |c, a| restore(c, a, 4, 5) },
@@ -133,54 +203,132 @@ const FAULTS: &[Fault] = &[
     Fault { name: "an endless walk is a decline", kinds: MARKS, ask: as_is, say: |_, a| if a.refusal == 7 { (a.status, a.refusal) = (DECLINED, 0) } },
 ];
 
-/// Does the run notice the fault in these calls? What the port answers to the calls themselves is known; those that the fault changes are asked anew.
-fn noticed(f: &Fault, calls: &[Call], theirs: &[Answer], plain: &[Answer], port: &mut Side) -> Option<usize> {
-    let mut asked = vec![];
-    let mut places = vec![];
-    for (k, call) in calls.iter().enumerate() {
-        let mut changed = call.clone();
-        (f.ask)(&mut changed);
-        if changed != *call {
-            asked.push(changed);
-            places.push(k);
+/// Faults where slots have clusters.
+#[rustfmt::skip]
+const WITH_CLUSTERS: &[Fault] = &[
+    Fault { name: "starting clears clusters", kinds: &[START], ask: as_is, say: |c, a| if a.status == DONE { slots_of(c, a).for_each(|s| s[24..].fill(0)) } },
+    Fault { name: "a done call changes a cluster's first byte", kinds: &[START, FINISH], ask: as_is, say: |c, a| touch(c, a, DONE, own_slot(c), 0) },
+    Fault { name: "a done call changes a cluster's last byte", kinds: &[START, FINISH], ask: as_is, say: |c, a| touch(c, a, DONE, 0, 3) },
+    Fault { name: "an applied call changes a cluster's first byte", kinds: APPLYING, ask: as_is, say: |c, a| touch(c, a, APPLIED, own_slot(c), 0) },
+    Fault { name: "an applied call changes a cluster's last byte", kinds: APPLYING, ask: as_is, say: |c, a| touch(c, a, APPLIED, 0, 3) },
+    Fault { name: "a declined call changes a cluster", kinds: APPLYING, ask: as_is, say: |c, a| touch(c, a, DECLINED, own_slot(c), 3) },
+    Fault { name: "a refused call changes a cluster", kinds: ALL, ask: as_is, say: |c, a| touch(c, a, REFUSED, 0, 3) },
+    Fault { name: "the cluster is taken for the y offset", kinds: &[FINISH, SINGLE, PAIR, CURSIVE, MARK_BASE, MARK_LIGATURE], ask: |c| each_slot(c, |s| s[20..].rotate_left(4)), say: |c, a| slots_of(c, a).for_each(|s| s[20..].rotate_left(4)) },
+    Fault { name: "the cluster is taken for the glyph", kinds: APPLYING, ask: |c| each_slot(c, |s| s.copy_within(26.., 0)), say: |c, a| restore(c, a, 0, 2) },
+    Fault { name: "a cluster above 65,535 is a bad slot", kinds: ALL, ask: as_is, say: |c, a| if !(1..=3).contains(&a.refusal) && c.line.chunks_exact(FORMS[1]).any(|s| s[24..26] != [0, 0]) { refuse(c, a, 4) } },
+    Fault { name: "a line above 24,576 bytes is refused", kinds: ALL, ask: as_is, say: |c, a| if c.line.len() > 24_576 { refuse(c, a, 1) } },
+    Fault { name: "a length that is no multiple of 24 is refused", kinds: ALL, ask: as_is, say: |c, a| if c.line.len() % 24 != 0 { refuse(c, a, 1) } },
+    Fault { name: "any multiple of 4 is a length", kinds: ALL, ask: |c| if c.line.len() % 4 == 0 { c.line.truncate(c.slots() * FORMS[1]) }, say: |c, a| a.line.extend(&c.line[a.line.len()..]) },
+];
+
+/// Faults where the size is no form's.
+#[rustfmt::skip]
+const OTHER_SIZES: &[Fault] = &[
+    Fault { name: "size 26 is allowed", kinds: ALL, ask: |c| allow(c, 26), say: |c, a| allowed(c, a, 26) },
+    Fault { name: "size 32 is allowed", kinds: ALL, ask: |c| allow(c, 32), say: |c, a| allowed(c, a, 32) },
+    Fault { name: "a size is cut to 32 bits", kinds: ALL, ask: |c| c.size &= 0xFFFF_FFFF, say: kept },
+    Fault { name: "a size is cut to 8 bits", kinds: ALL, ask: |c| c.size &= 255, say: kept },
+    Fault { name: "size 0 is 24", kinds: ALL, ask: |c| if c.size == 0 { c.size = 24 }, say: kept },
+    Fault { name: "sizes above 28 are 28", kinds: ALL, ask: |c| c.size = c.size.min(28), say: kept },
+    Fault { name: "the direction is looked at before the size", kinds: &[FINISH, SINGLE, PAIR, CURSIVE, MARK_BASE, MARK_LIGATURE], ask: as_is, say: |c, a| if c.direction > 3 { a.refusal = 2 } },
+];
+
+/// Faults of the moves.
+#[rustfmt::skip]
+const MOVING: &[Fault] = &[
+    Fault { name: "a cluster is one more", kinds: &[TO_CLUSTERS], ask: as_is, say: |c, a| if a.status == DONE { slots_of(c, a).enumerate().for_each(|(i, s)| put_cluster(s, i + 1)) } },
+    Fault { name: "a cluster has its bytes in the other order", kinds: &[TO_CLUSTERS], ask: as_is, say: |c, a| if a.status == DONE { slots_of(c, a).for_each(|s| s[24..].reverse()) } },
+    Fault { name: "a cluster has 8 bits", kinds: &[TO_CLUSTERS], ask: as_is, say: |c, a| if a.status == DONE { slots_of(c, a).for_each(|s| s[26] = 0) } },
+    Fault { name: "clusters are wanted from 1", kinds: &[FROM_CLUSTERS], ask: as_is, say: |c, a| if a.status == DONE && c.slots() > 0 { refuse(c, a, 10) } },
+    Fault { name: "clusters from 1 are taken", kinds: &[FROM_CLUSTERS], ask: |c| if counts_from(c, 1) { count(c) }, say: kept },
+    Fault { name: "a wrong cluster is taken", kinds: &[FROM_CLUSTERS], ask: count, say: kept },
+    Fault { name: "the last cluster is not looked at", kinds: &[FROM_CLUSTERS], ask: |c| if let Some((i, s)) = c.each_slot().enumerate().last() { put_cluster(s, i) }, say: kept },
+    Fault { name: "a cluster's first byte is not looked at", kinds: &[FROM_CLUSTERS], ask: |c| each_slot(c, |s| s[24] = 0), say: kept },
+    Fault { name: "a cluster's last byte is not looked at", kinds: &[FROM_CLUSTERS], ask: |c| c.each_slot().enumerate().for_each(|(i, s)| s[27] = i as u8), say: kept },
+    Fault { name: "a target too long is taken", kinds: MOVES, ask: |c| c.subtable.truncate(moved_len(c)), say: |c, a| a.line.extend(&c.subtable[a.line.len()..]) },
+    Fault { name: "a target too short is taken", kinds: MOVES, ask: |c| if c.subtable.len() < moved_len(c) { c.subtable.resize(moved_len(c), 0) }, say: |c, a| a.line.truncate(c.subtable.len()) },
+    Fault { name: "a target one byte too long is taken", kinds: MOVES, ask: |c| if c.subtable.len() == moved_len(c) + 1 { c.subtable.pop(); }, say: |c, a| a.line.extend(&c.subtable[a.line.len()..]) },
+    Fault { name: "a refusal writes the first slot", kinds: MOVES, ask: as_is, say: |c, a| if a.status == REFUSED && c.slots() > 0 { a.line.iter_mut().zip(&c.line[..24]).for_each(|(to, from)| *to = *from) } },
+    Fault { name: "a refusal clears the target", kinds: MOVES, ask: as_is, say: |_, a| if a.status == REFUSED { a.line.fill(0) } },
+    Fault { name: "a wrong cluster is found after writing", kinds: &[FROM_CLUSTERS], ask: as_is, say: |c, a| if a.refusal == 10 && a.line.len() == moved_len(c) { restore(c, a, 0, 24) } },
+    Fault { name: "the last slot is not moved", kinds: MOVES, ask: as_is, say: |c, a| if a.status == DONE && c.slots() > 0 { let at = moved_len(c) - c.written().1; a.line[at..].copy_from_slice(&c.subtable[at..]) } },
+    Fault { name: "the y offset is not moved", kinds: MOVES, ask: as_is, say: |c, a| if a.status == DONE { let to = c.written().1; for (s, was) in slots_of(c, a).zip(c.subtable.chunks(to)) { s[20..24].copy_from_slice(&was[20..24]) } } },
+    Fault { name: "types are forgotten", kinds: MOVES, ask: as_is, say: |c, a| if a.status == DONE { slots_of(c, a).for_each(|s| s[5] = 0) } },
+    Fault { name: "an empty line is refused", kinds: MOVES, ask: as_is, say: |c, a| if c.line.is_empty() { refuse(c, a, 1) } },
+    Fault { name: "1,024 slots are one too many", kinds: MOVES, ask: as_is, say: |c, a| if c.slots() == 1024 { refuse(c, a, 1) } },
+    Fault { name: "a length that is whole slots of the other form is taken", kinds: MOVES, ask: as_is, say: |c, a| if a.refusal == 1 && c.line.len() % c.written().1 == 0 && c.slots() <= 1024 { (a.status, a.refusal) = (DONE, 0) } },
+    Fault { name: "1,025 slots are allowed", kinds: MOVES, ask: as_is, say: |c, a| if c.line.len() == 1025 * c.stride() && !bad_slot(c) { (a.status, a.refusal) = (DONE, 0) } },
+    Fault { name: "a component of 16 is allowed", kinds: MOVES, ask: |c| each_slot(c, |s| if s[3] == 16 { s[3] = 15 }), say: |c, a| if a.status == DONE { restore(c, a, 3, 4) } },
+    Fault { name: "refusal 4 comes before 1", kinds: MOVES, ask: as_is, say: |c, a| if a.refusal == 1 && bad_slot(c) { a.refusal = 4 } },
+    Fault { name: "refusal 10 comes before 4", kinds: MOVES, ask: as_is, say: |c, a| if a.refusal == 4 && c.subtable.len() != moved_len(c) { a.refusal = 10 } },
+    Fault { name: "a wrong cluster comes before 4", kinds: &[FROM_CLUSTERS], ask: as_is, say: |c, a| if a.refusal == 4 && !counts_from(c, 0) { a.refusal = 10 } },
+];
+
+/// The tables, each with the forms that its faults concern.
+const TABLES: [(&[usize], &[Fault]); 4] = [(&FORMS, FAULTS), (&[FORMS[1]], WITH_CLUSTERS), (&[NO_FORM], OTHER_SIZES), (&FORMS, MOVING)];
+
+/// The faults of a kind, each with a form in which it must be noticed.
+fn planted(kind: usize) -> Vec<(&'static Fault, usize)> {
+    let mut out = vec![];
+    for (concerned, faults) in TABLES {
+        let here = concerned.iter().filter(|f| **f == NO_FORM || forms(kind).contains(f));
+        for &form in here {
+            out.extend(faults.iter().filter(|f| f.kinds.contains(&kind)).map(|f| (f, form)));
         }
     }
-    let mut ours = plain.to_vec();
-    for (k, answer) in places.into_iter().zip(port.ask(&asked)) {
-        ours[k] = answer;
-    }
-    for k in 0..calls.len() {
-        (f.say)(&calls[k], &mut ours[k]);
-    }
-    (0..calls.len()).find(|k| ours[*k] != theirs[*k])
+    out
 }
 
-/// Plants each fault in each kind that it concerns, and says whether all were noticed.
+/// Does the run notice the fault in those of these calls that have the form? What the port answers to the calls themselves is known; those that the fault changes are
+/// asked anew.
+fn noticed(f: &Fault, form: usize, calls: &[Call], theirs: &[Answer], plain: &[Answer], port: &mut Side) -> Option<usize> {
+    let concerned: Vec<usize> = (0..calls.len()).filter(|k| calls[*k].form() == form).collect();
+    let mut ours: Vec<Answer> = concerned.iter().map(|k| plain[*k].clone()).collect();
+    let (mut asked, mut places) = (vec![], vec![]);
+    for (at, k) in concerned.iter().enumerate() {
+        let mut changed = calls[*k].clone();
+        (f.ask)(&mut changed);
+        if changed != calls[*k] {
+            asked.push(changed);
+            places.push(at);
+        }
+    }
+    for (at, answer) in places.into_iter().zip(port.ask(&asked)) {
+        ours[at] = answer;
+    }
+    concerned.into_iter().zip(ours).find_map(|(k, mut answer)| {
+        (f.say)(&calls[k], &mut answer);
+        (answer != theirs[k]).then_some(k)
+    })
+}
+
+/// Plants each fault in each kind and form that it concerns, and says whether all were noticed.
 pub fn run(kinds: &[usize], oracle: &[String], port: &[String], calls: usize, seed: u64) -> bool {
     let (mut oracle, mut port) = (Side::start(oracle), Side::start(port));
-    let (mut planted, mut missed) = (0, 0);
+    let (mut count, mut missed) = (0, 0);
     for &kind in kinds {
-        let mut left: Vec<&Fault> = FAULTS.iter().filter(|f| f.kinds.contains(&kind)).collect();
-        planted += left.len();
+        let mut left = planted(kind);
+        count += left.len();
         let mut before = 0;
+        let say = |f: &Fault, form: usize, what: String| println!("{:14} {}, {}: {what}", NAMES[kind], form_name(form), f.name);
         for job in plan(&[kind], calls, seed, 7) {
             if left.is_empty() {
                 break;
             }
             let calls = job.calls();
             let (theirs, plain) = (oracle.ask(&calls), port.ask(&calls));
-            left.retain(|f| match noticed(f, &calls, &theirs, &plain, &mut port) {
+            left.retain(|(f, form)| match noticed(f, *form, &calls, &theirs, &plain, &mut port) {
                 Some(k) => {
-                    println!("{:14} {}: noticed after {} calls", NAMES[kind], f.name, before + k + 1);
+                    say(f, *form, format!("noticed after {} calls", before + k + 1));
                     false
                 }
                 None => true,
             });
             before += calls.len();
         }
-        left.iter().for_each(|f| println!("{:14} {}: NOT NOTICED in {before} calls", NAMES[kind], f.name));
+        left.iter().for_each(|(f, form)| say(f, *form, format!("NOT NOTICED in {before} calls")));
         missed += left.len();
     }
-    println!("{planted} faults planted, {missed} not noticed");
+    println!("{count} faults planted, {missed} not noticed");
     missed == 0
 }

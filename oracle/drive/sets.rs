@@ -1,23 +1,25 @@
-//! Calls made one by one from their number: short lines in full, labels, every length around a boundary, every byte of a slot's first fields, every mixture of
-//! refusals, each argument at its ends, and each subtable cut at every byte and changed at every bit.
+//! Calls made one by one from their number, in slots of either form: short lines in full, labels, every length around a boundary, every byte of a slot's first
+//! fields, sizes that there aren't, every mixture of refusals, each argument at its ends, and each subtable cut at every byte and changed at every bit.
 use crate::call::*;
-use crate::lines::{arguments, push, Slot};
+use crate::lines::{arguments, push, scatter_clusters, Slot, WRONG_SIZES};
+use crate::moves;
 use crate::rng::Rng;
 use crate::tables::{damage, subtable, whole};
 
 pub struct Set {
     pub name: &'static str,
     pub count: usize,
-    pub make: fn(kind: usize, number: usize) -> Call,
+    pub make: fn(kind: usize, form: usize, number: usize) -> Call,
 }
 
-/// A call of the kind that is applied, on a line of n slots.
-pub fn plain(kind: usize, n: usize) -> Call {
+/// A line of n slots of so many bytes, for a call of the kind that is applied.
+fn plain_line(kind: usize, size: usize, n: usize) -> Vec<u8> {
     let mut line = vec![];
     for i in 0..n {
         let marks = kind >= MARK_BASE && i + 1 == n;
         push(
             &mut line,
+            size,
             Slot {
                 glyph: (i % 8) as u16,
                 ligature_id: 1,
@@ -29,12 +31,17 @@ pub fn plain(kind: usize, n: usize) -> Call {
             },
         );
     }
+    line
+}
+
+/// A call of the kind that is applied, on such a line.
+pub fn plain(kind: usize, size: usize, n: usize) -> Call {
     let index = match kind {
         PAIR => n.saturating_sub(2),
         _ => n.saturating_sub(1),
     };
     let neighbour = if kind == PAIR { index + 1 } else { index.saturating_sub(1) };
-    Call {
+    let call = Call {
         kind,
         direction: 0,
         s: 1000,
@@ -43,16 +50,18 @@ pub fn plain(kind: usize, n: usize) -> Call {
         attachments: 1,
         missing: 0,
         lookup_flag: 0,
+        size: size as u64,
         index: index as u64,
         neighbour: neighbour as u64,
-        line,
+        line: plain_line(kind, size, n),
         subtable: whole(kind),
-    }
+    };
+    moves::fitted(call)
 }
 
 /// The same with a random subtable, of which nothing is wrong but what it lacks.
-fn varied(kind: usize, seed: usize) -> Call {
-    let mut call = plain(kind, 6);
+fn varied(kind: usize, form: usize, seed: usize) -> Call {
+    let mut call = plain(kind, form, 6);
     call.direction = (seed % 4) as u32;
     call.lookup_flag = (seed / 4 % 2) as u32;
     call.subtable = subtable(&mut Rng::new(0x5EED + seed as u64), kind, 1 << 30);
@@ -60,21 +69,22 @@ fn varied(kind: usize, seed: usize) -> Call {
 }
 
 /// The digit of `number` in a mixed base, taken off.
-fn digit(number: &mut usize, base: usize) -> usize {
+pub fn digit(number: &mut usize, base: usize) -> usize {
     let d = *number % base;
     *number /= base;
     d
 }
 
 /// Every line of three slots with chains -3 to 3 and types 0 to 3, in each direction, and with each limit, flag, index and neighbour that matters.
-fn chains(kind: usize, mut number: usize) -> Call {
-    let mut call = plain(kind, 3);
+fn chains(kind: usize, form: usize, mut number: usize) -> Call {
+    let mut call = plain(kind, form, 3);
     for i in 0..3 {
-        call.line[24 * i + 5] = digit(&mut number, 4) as u8;
+        let slot = call.slot(i);
+        slot[5] = digit(&mut number, 4) as u8;
         let chain = digit(&mut number, 7) as i16 - 3;
-        call.line[24 * i + 6..24 * i + 8].copy_from_slice(&chain.to_be_bytes());
-        call.line[24 * i + 16..24 * i + 20].copy_from_slice(&[100i32, 1000, 10000][i].to_be_bytes());
-        call.line[24 * i + 20..24 * i + 24].copy_from_slice(&[3i32, 50, 700][i].to_be_bytes());
+        slot[6..8].copy_from_slice(&chain.to_be_bytes());
+        slot[16..20].copy_from_slice(&[100i32, 1000, 10000][i].to_be_bytes());
+        slot[20..24].copy_from_slice(&[3i32, 50, 700][i].to_be_bytes());
     }
     call.direction = digit(&mut number, 4) as u32;
     match kind {
@@ -83,7 +93,7 @@ fn chains(kind: usize, mut number: usize) -> Call {
             call.lookup_flag = digit(&mut number, 2) as u32;
             (call.index, call.neighbour) = [(1, 0), (2, 1), (2, 0)][digit(&mut number, 3)];
         }
-        MARK_BASE | MARK_LIGATURE if digit(&mut number, 2) == 1 => call.line[24 + 4] = 0,
+        MARK_BASE | MARK_LIGATURE if digit(&mut number, 2) == 1 => call.slot(1)[4] = 0,
         _ => {}
     }
     call
@@ -91,13 +101,13 @@ fn chains(kind: usize, mut number: usize) -> Call {
 
 /// A label as fonts make them: letters, each apart or joined to the one before or after it, then marks, of which the last is attached. It has the letters' ligature id or another, and
 /// any component.
-fn labels(kind: usize, mut number: usize) -> Call {
+fn labels(kind: usize, form: usize, mut number: usize) -> Call {
     let letters = 1 + digit(&mut number, 6);
-    let mut call = plain(kind, letters + 1 + digit(&mut number, 3));
+    let mut call = plain(kind, form, letters + 1 + digit(&mut number, 3));
     let (chain, end) = [(0i16, 0), (-1, 0), (1, letters - 1)][digit(&mut number, 3)];
     let (id, component) = (1 + digit(&mut number, 2) as u8, digit(&mut number, 16) as u8);
     call.direction = digit(&mut number, 4) as u32;
-    for (i, slot) in call.line.chunks_exact_mut(24).enumerate() {
+    for (i, slot) in call.each_slot().enumerate() {
         if i >= letters {
             slot[2..5].copy_from_slice(&[id, component, 2]);
         } else if i != end {
@@ -108,32 +118,60 @@ fn labels(kind: usize, mut number: usize) -> Call {
     call
 }
 
-/// Every length up to four slots and a byte, and from 24,540 to 24,620.
-fn lengths(kind: usize, number: usize) -> Call {
-    let n = if number < 98 { number } else { 24540 + number - 98 };
-    let mut call = plain(kind, n / 24 + 1);
-    call.line.truncate(n);
-    let slots = n as u64 / 24;
-    call.index = slots.saturating_sub(if kind == PAIR { 2 } else { 1 });
-    call.neighbour = if kind == PAIR { call.index + 1 } else { call.index.saturating_sub(1) };
+/// A call on a line of n bytes: whole slots, and zeros behind them.
+fn of_length(kind: usize, form: usize, n: usize) -> Call {
+    let mut call = plain(kind, form, n / form);
+    call.line.resize(n, 0);
     call
 }
 
+/// Every length up to four slots with a cluster and a byte, 168, which is whole slots in either form, and those around the limit of each form.
+pub fn lengths(kind: usize, form: usize, number: usize) -> Call {
+    let n = match number {
+        0..=113 => number,
+        114 => 168,
+        115..=195 => 24540 + number - 115,
+        _ => 28630 + number - 196,
+    };
+    of_length(kind, form, n)
+}
+pub const LENGTHS: usize = 114 + 1 + 81 + 81;
+
 /// Every value of the bytes 2 to 5 of a slot.
-fn bytes(kind: usize, mut number: usize) -> Call {
-    let mut call = plain(kind, 3);
+pub fn bytes(kind: usize, form: usize, mut number: usize) -> Call {
+    let mut call = plain(kind, form, 3);
     let value = digit(&mut number, 256) as u8;
     let byte = 2 + digit(&mut number, 4);
-    call.line[24 * digit(&mut number, 3) + byte] = value;
+    call.slot(digit(&mut number, 3))[byte] = value;
+    call
+}
+pub const BYTES: usize = 256 * 4 * 3;
+
+/// Every size that there isn't, on a line that is good but for it, or whose length is whole slots of a form or at a form's limit; alone, and with causes of refusals that
+/// come later.
+fn sizes(kind: usize, form: usize, mut number: usize) -> Call {
+    let size = WRONG_SIZES[digit(&mut number, WRONG_SIZES.len())];
+    // what is left of the size where it is cut
+    let low = if size as u8 == 0 { form } else { (size as u8).into() };
+    let mut call = match digit(&mut number, 11) {
+        k @ 0..=3 => plain(kind, low, [0, 2, 3, 7][k]),
+        k => of_length(kind, form, [24, 28, 168, 24_576, 24_600, 28_672, 28_700][k - 4]),
+    };
+    call.size = size;
+    match digit(&mut number, 3) {
+        1 => (call.direction, call.limit, call.s) = (4, 65, 0),
+        2 => call.line.iter_mut().for_each(|b| *b = 255),
+        _ => {}
+    }
     call
 }
 
 /// Each argument at its ends.
-fn ends(kind: usize, mut number: usize) -> Call {
+fn ends(kind: usize, form: usize, mut number: usize) -> Call {
     const SCALE_S: [u32; 10] = [0, 1, 2, 500, 32767, 32768, 32769, 65536, 1 << 31, u32::MAX];
     const SCALE_U: [u32; 10] = [0, 15, 16, 17, 1000, 16383, 16384, 16385, 1 << 31, u32::MAX];
     const PLACES: [u64; 10] = [0, 1, 2, 3, 4, 5, 255, 1 << 32, 1 << 63, u64::MAX];
-    let mut call = plain(kind, 4);
+    let mut call = plain(kind, form, 4);
     call.direction = digit(&mut number, 4) as u32;
     call.lookup_flag = digit(&mut number, 2) as u32;
     let k = digit(&mut number, 100);
@@ -157,8 +195,8 @@ fn ends(kind: usize, mut number: usize) -> Call {
 }
 
 /// Every mixture of the causes of refusals 1 to 6, each in three ways.
-fn refusals(kind: usize, mut number: usize) -> Call {
-    let mut call = plain(kind, 3);
+fn refusals(kind: usize, form: usize, mut number: usize) -> Call {
+    let mut call = plain(kind, form, 3);
     let causes = digit(&mut number, 64);
     let way = digit(&mut number, 3);
     let has = |k: usize| causes >> k & 1 == 1;
@@ -170,7 +208,7 @@ fn refusals(kind: usize, mut number: usize) -> Call {
         (call.s, call.u) = [(0, 1000), (32769, 15), (1000, 16385)][way];
     }
     if has(3) {
-        call.line[24 * way + 2 + way] = [8, 16, 8][way];
+        call.slot(way)[2 + way] = [8, 16, 8][way];
     }
     if has(4) {
         call.index = [3, 4, u64::MAX][way];
@@ -179,7 +217,7 @@ fn refusals(kind: usize, mut number: usize) -> Call {
         call.subtable = [vec![], vec![0, 9, 0, 0, 0, 0, 0, 0, 0, 0, 0, 0, 0, 0, 0, 0], vec![0; 65537]][way].clone();
     }
     if has(0) {
-        call.line.extend([vec![0; 1], vec![0; 23], vec![0; 24600]][way].clone());
+        call.line.extend(vec![0; [1, form - 1, 1025 * form][way]]);
     }
     call
 }
@@ -187,18 +225,18 @@ fn refusals(kind: usize, mut number: usize) -> Call {
 const CUT: usize = 200;
 
 /// A good subtable cut at each byte.
-fn cuts(kind: usize, mut number: usize) -> Call {
+fn cuts(kind: usize, form: usize, mut number: usize) -> Call {
     let at = digit(&mut number, CUT);
-    let mut call = varied(kind, number);
+    let mut call = varied(kind, form, number);
     call.subtable.truncate(at);
     call
 }
 
 /// A good subtable with one bit changed.
-fn bits(kind: usize, mut number: usize) -> Call {
+fn bits(kind: usize, form: usize, mut number: usize) -> Call {
     let bit = digit(&mut number, 8);
     let at = digit(&mut number, CUT);
-    let mut call = varied(kind, number);
+    let mut call = varied(kind, form, number);
     if let Some(b) = call.subtable.get_mut(at) {
         *b ^= 1 << bit;
     }
@@ -206,19 +244,23 @@ fn bits(kind: usize, mut number: usize) -> Call {
 }
 
 /// Subtables as long as is allowed, and a byte longer: a coverage of many glyphs, or a good subtable with zeros after it.
-fn long_tables(kind: usize, mut number: usize) -> Call {
+fn long_tables(kind: usize, form: usize, mut number: usize) -> Call {
     let len = [65534, 65535, 65536, 65537, 70000][digit(&mut number, 5)];
-    let mut call = varied(kind, number);
+    let mut call = varied(kind, form, number);
     call.subtable.resize(len, 0);
     call
 }
 
 /// The sets of a kind.
 pub fn sets(kind: usize) -> Vec<Set> {
+    if is_move(kind) {
+        return moves::sets(kind);
+    }
     let short = 343 * 64;
     let mut all = vec![
-        Set { name: "lengths", count: 98 + 81, make: lengths },
-        Set { name: "bytes", count: 256 * 4 * 3, make: bytes },
+        Set { name: "lengths", count: LENGTHS, make: lengths },
+        Set { name: "bytes", count: BYTES, make: bytes },
+        Set { name: "sizes", count: WRONG_SIZES.len() * 11 * 3, make: sizes },
         Set { name: "ends", count: 8 * 100 * 5, make: ends },
         Set { name: "refusals", count: 64 * 3, make: refusals },
     ];
@@ -240,10 +282,20 @@ pub fn sets(kind: usize) -> Vec<Set> {
     all
 }
 
+/// A call of a set, in slots of a form.
+pub fn made(set: &Set, kind: usize, form: usize, number: usize) -> Call {
+    let mut call = (set.make)(kind, form, number);
+    scatter_clusters(&mut Rng::new(number as u64), &mut call);
+    call
+}
+
 /// A random call: most are good, some have a few faults, some have many.
 pub fn random(r: &mut Rng, kind: usize) -> Call {
     let odds = r.pick(&[1000, 60, 60, 25, 25, 6]);
     let mut call = arguments(r, kind, odds);
+    if is_move(kind) {
+        return moves::random(r, call, odds);
+    }
     call.subtable = subtable(r, kind, odds);
     damage(r, &mut call.subtable, odds);
     call
