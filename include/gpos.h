@@ -1,8 +1,8 @@
 /* gpos.h: glyph positioning (OpenType GPOS) on a line of glyph slots.
  *
  * Link with libgpos_c.a, which `rt staticlib gpos_c` writes to target/staticlib/. It is for x86-64 Linux, allocates nothing, keeps no state, calls
- * nothing and may be used from any number of threads at once. Of stack, gpos_cursive takes up to 82,200 bytes, for an old chain through a whole line (80 a
- * slot), gpos_finish up to 4,216; the other calls took up to 464 where they were measured, one applied call of each.
+ * nothing and may be used from any number of threads at once. Of stack, with slots of either size, gpos_cursive takes up to 82,232 bytes, for an old chain through a whole
+ * line (80 a slot), gpos_finish up to 4,176; the other calls took up to 480 where they were measured, one call of each, applied or done.
  *
  * A label is a LINE: up to 1,024 glyph slots, one after the other, in memory that you lend for the call. All its slots have 24 bytes, or all have 28, of which
  * the last four are a cluster. You must name the size in every call but a move, since a line doesn't show it: 168 bytes may be seven slots of 24, or six of 28.
@@ -192,8 +192,9 @@ gpos_answer gpos_mark_ligature(uint8_t *line, size_t line_len, size_t slot_size,
 
 /* ---- Moving a line to slots of the other size
  *
- * The line is only read, and its slots are written to the target, whose length must be that of the moved line exactly. There and back gives the same bytes. An
- * empty line, moved to an empty target, is done. */
+ * The line is only read, and its slots are written to the target, whose length must be exactly that of the moved line: line_len / 24 * 28 to slots with a
+ * cluster, line_len / 28 * 24 back. There and back gives the same bytes. A refusal leaves the target as it was. An empty line, moved to an empty target, is
+ * done. */
 
 /* Moves a line of 24-byte slots to 28-byte ones: each slot's 24 bytes, and as its cluster its number, from 0. Set your own clusters afterwards.
  * Returns 0, or refusal 1, 4 or 10. */

@@ -201,15 +201,15 @@ pub fn finish(line: &mut [u8], form: Form, direction: Direction, nesting_limit: 
     done(unsafe { ffi::gpos_finish(line.as_mut_ptr(), line.len(), form.size(), direction as u32, nesting_limit, attachments.into()) })
 }
 
-/// Moves a [`Form::Plain`] line to a [`Form::Clustered`] target: the cluster of each slot is its number, from 0. The target must be as long as the moved line
-/// exactly.
+/// Moves a [`Form::Plain`] line to a [`Form::Clustered`] target: the cluster of each slot is its number, from 0. The target must be exactly as long as
+/// the moved line: `line.len() / 24 * 28`. A refusal leaves it as it was.
 pub fn to_clusters(line: &[u8], target: &mut [u8]) -> Result<(), Refusal> {
     // SAFETY: as in `start`; the line is only read, and can't overlap a target that is lent to write.
     done(unsafe { ffi::gpos_to_clusters(line.as_ptr(), line.len(), target.as_mut_ptr(), target.len()) })
 }
 
 /// Moves a [`Form::Clustered`] line back to a [`Form::Plain`] target. A cluster that is not its slot's number would be lost, so it is refused with
-/// [`Refusal::Move`]. The target must be as long as the moved line exactly.
+/// [`Refusal::Move`]. The target must be exactly as long as the moved line: `line.len() / 28 * 24`. A refusal leaves it as it was.
 pub fn from_clusters(line: &[u8], target: &mut [u8]) -> Result<(), Refusal> {
     // SAFETY: as in `to_clusters`.
     done(unsafe { ffi::gpos_from_clusters(line.as_ptr(), line.len(), target.as_mut_ptr(), target.len()) })

@@ -1,4 +1,4 @@
--- What a call says, in document 01's terms, and what each case of code's answers says. Assumes nothing.
+-- What a call says, in the terms of documents 01 and 02, and what each case of code's answers says. Assumes nothing.
 use mathlib.Core.Bool.{Bool}
 use mathlib.Core.List.{List, [], _∷_}
 use Prim.Native.Nat.{ℕ}
@@ -22,7 +22,7 @@ pub data Range : Type 0 where
   break : ℕ → ℕ → Range
   concat : ℕ → ℕ → Range
 
--- What a call says. Applied: the next index, the hazards in order, whether it attached. Declined: one hazard or none. Refused: a number of the table.
+-- What a call says. Applied: the next index, the hazards in order, whether it attached. Declined: one hazard or none. Refused: a number of the documents.
 -- Starting, finishing and the moves say only "done".
 pub data Said : Type 0 where
   applied : ℕ → List Range → Bool → Said

@@ -1,4 +1,4 @@
-// What the calls answer, in one place: cores and public calls use the same types. specs/Said.antt gives document 01's words and numbers for each case.
+// What the calls answer, in one place: cores and public calls use the same types. specs/Said.antt gives the documents' words and numbers for each case.
 ghost use mathlib.Core.List.{[], _∷_};
 ghost use mathlib.Core.Path.{_≡_};
 ghost use Rattle.answers.specs.Said.{break, concat, range, ranges, refusalNumber};
