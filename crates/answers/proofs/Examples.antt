@@ -3,10 +3,10 @@ use mathlib.Core.Bool.{true, false}
 use mathlib.Core.List.{[], _∷_, map}
 use mathlib.Core.Path.{_≡_, refl}
 use Rattle.slots.specs.Slot.{noSlot}
-use Rattle.answers.specs.Hazards.{mostHazards}
+use Rattle.answers.specs.theorems.Hazards.{mostHazards}
 use Rattle.answers.specs.Outcome.{lineAfter}
-use Rattle.answers.specs.Said.{break, concat, Said, applied, declined, done, refused, refusalNumber, said, saidDone, saidMoved, unless}
-use Rattle.answers.specs.declared.Kind.the-variants.{Break, Concat}
+use Rattle.answers.specs.Said.{unsafeToBreak, unsafeToConcat, Said, applied, declined, done, refused, refusalNumber, said, saidDone, saidMoved, unless}
+use Rattle.answers.specs.declared.HazardKind.the-variants.{UnsafeToBreak, UnsafeToConcat}
 use Rattle.answers.specs.declared.Hazards.the-variants.{None, One, Two}
 use Rattle.answers.specs.declared.Refusal.the-variants.{Line, Direction, Number, Slot, Index, Subtable, Endless}
 use Rattle.answers.specs.declared.Answer.the-variants.{Applied, Declined, Refused}
@@ -17,9 +17,9 @@ pub record Worked : Type 0 where
   -- the table's seven numbers, each once
   pub numbers : map refusalNumber (Line ∷ Direction ∷ Number ∷ Slot ∷ Index ∷ Subtable ∷ Endless ∷ []) ≡ (1 ∷ 2 ∷ 3 ∷ 4 ∷ 5 ∷ 6 ∷ 7 ∷ [])
   -- hazards are said in order, as named, also where the end is not above the start
-  pub hazards : said (Applied 2 (Two (record { kind = Concat; start = 0; end = 2 }) (record { kind = Break; start = 0; end = 3 })) true)
-      ≡ applied 2 (concat 0 2 ∷ break 0 3 ∷ []) true
-  pub backward : said (Declined (One (record { kind = Concat; start = 1; end = 0 }))) ≡ declined (concat 1 0 ∷ [])
+  pub hazards : said (Applied 2 (Two (record { kind = UnsafeToConcat; start = 0; end = 2 }) (record { kind = UnsafeToBreak; start = 0; end = 3 })) true)
+      ≡ applied 2 (unsafeToConcat 0 2 ∷ unsafeToBreak 0 3 ∷ []) true
+  pub backward : said (Declined (One (record { kind = UnsafeToConcat; start = 1; end = 0 }))) ≡ declined (unsafeToConcat 1 0 ∷ [])
   -- applied: up to two hazards; declined: one or none; refused, done: none
   pub most : map mostHazards (applied 2 [] true ∷ declined [] ∷ refused 7 ∷ done ∷ []) ≡ (2 ∷ 1 ∷ 0 ∷ 0 ∷ [])
   -- a refusal carries its number alone; starting and finishing say "done"
@@ -29,7 +29,7 @@ pub record Worked : Type 0 where
   -- of several tests that hold the first refuses; where none holds, what follows is said
   pub lowest : (unless ((false, 1) ∷ (true, 2) ∷ (false, 3) ∷ (true, 4) ∷ []) done ≡ refused 2) × (unless ((false, 1) ∷ (false, 4) ∷ []) done ≡ done)
   -- a refusal and a decline leave the very bytes, whatever slots were to be there, even a line that is no whole slots
-  pub untouched : map (λ (s : Said). lineAfter 24 s (9 ∷ []) (noSlot ∷ [])) (refused 1 ∷ declined [] ∷ declined (concat 0 1 ∷ []) ∷ []) ≡ ((9 ∷ []) ∷ (9 ∷ []) ∷ (9 ∷ []) ∷ [])
+  pub untouched : map (λ (s : Said). lineAfter 24 s (9 ∷ []) (noSlot ∷ [])) (refused 1 ∷ declined [] ∷ declined (unsafeToConcat 0 1 ∷ []) ∷ []) ≡ ((9 ∷ []) ∷ (9 ∷ []) ∷ (9 ∷ []) ∷ [])
 
 pub worked : Worked
 worked = record { numbers = refl; hazards = refl; backward = refl; most = refl; others = (refl, refl, refl, refl); moves = refl; lowest = (refl, refl); untouched = refl }

@@ -4,7 +4,7 @@ use mathlib.Core.List.{List, [], _∷_}
 use Prim.Native.Nat.{ℕ}
 use native.Mathlib.Omega.{arith}
 use Rattle.ints.specs.Choice.{if_then_else_}
-use Rattle.answers.specs.Hazards.{FewHazards}
+use Rattle.answers.specs.theorems.Hazards.{FewHazards}
 use Rattle.answers.specs.Said.{Said, refused, unless}
 
 pub few-unless : (ts : List (Bool × ℕ)) (s : Said) → FewHazards s → FewHazards (unless ts s)

@@ -4,9 +4,9 @@ use mathlib.Core.List.{List, [], _∷_}
 use Prim.Native.Nat.{ℕ}
 use lib.Dec.{eqb}
 use Rattle.ints.specs.Choice.{if_then_else_}
-use Rattle.answers.specs.Said.{Range, break, concat, Said, applied, declined, refused, done, range, ranges, refusalNumber, said, saidDone, saidMoved}
-use Rattle.answers.specs.declared.Kind.{Kind}
-use Rattle.answers.specs.declared.Kind.the-variants.{Break, Concat}
+use Rattle.answers.specs.Said.{Range, unsafeToBreak, unsafeToConcat, Said, applied, declined, refused, done, range, ranges, refusalNumber, said, saidDone, saidMoved}
+use Rattle.answers.specs.declared.HazardKind.{HazardKind}
+use Rattle.answers.specs.declared.HazardKind.the-variants.{UnsafeToBreak, UnsafeToConcat}
 use Rattle.answers.specs.declared.Hazard.{Hazard}
 use Rattle.answers.specs.declared.Hazards.{Hazards}
 use Rattle.answers.specs.declared.Hazards.the-variants.{None, One, Two}
@@ -31,8 +31,8 @@ refusalOf n =
     else Endless)))))
 
 abbrev hazard : Range → Hazard
-hazard (break s e) = record { kind = Break; start = s; end = e }
-hazard (concat s e) = record { kind = Concat; start = s; end = e }
+hazard (unsafeToBreak s e) = record { kind = UnsafeToBreak; start = s; end = e }
+hazard (unsafeToConcat s e) = record { kind = UnsafeToConcat; start = s; end = e }
 
 abbrev hazards : List Range → Hazards
 hazards [] = None
@@ -69,9 +69,9 @@ refusal-back Endless = refl
 hazard-back : (h : Hazard) → hazard (range h) ≡ h
 hazard-back h = go (h .kind) refl
   where
-    go : (k : Kind) → h .kind ≡ k → hazard (range h) ≡ h
-    go Break e = rw e
-    go Concat e = rw e
+    go : (k : HazardKind) → h .kind ≡ k → hazard (range h) ≡ h
+    go UnsafeToBreak e = rw e
+    go UnsafeToConcat e = rw e
 
 hazards-back : (hs : Hazards) → hazards (ranges hs) ≡ hs
 hazards-back None = refl

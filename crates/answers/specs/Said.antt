@@ -3,8 +3,8 @@ use mathlib.Core.Bool.{Bool}
 use mathlib.Core.List.{List, [], _∷_}
 use Prim.Native.Nat.{ℕ}
 use Rattle.ints.specs.Choice.{if_then_else_}
-use Rattle.answers.specs.declared.Kind.{Kind}
-use Rattle.answers.specs.declared.Kind.the-variants.{Break, Concat}
+use Rattle.answers.specs.declared.HazardKind.{HazardKind}
+use Rattle.answers.specs.declared.HazardKind.the-variants.{UnsafeToBreak, UnsafeToConcat}
 use Rattle.answers.specs.declared.Hazard.{Hazard}
 use Rattle.answers.specs.declared.Hazards.{Hazards}
 use Rattle.answers.specs.declared.Hazards.the-variants.{None, One, Two}
@@ -19,11 +19,11 @@ use Rattle.answers.specs.declared.Done.the-variants.{Done as DoneNow, Re
 
 -- a hazard: "break" or "concat", from a start up to an end, which is not included
 pub data Range : Type 0 where
-  break : ℕ → ℕ → Range
-  concat : ℕ → ℕ → Range
+  unsafeToBreak : ℕ → ℕ → Range
+  unsafeToConcat : ℕ → ℕ → Range
 
--- What a call says. Applied: the next index, the hazards in order, whether it attached. Declined: one hazard or none. Refused: a number of the documents.
--- Starting, finishing and the moves say only "done".
+-- What a call says. Applied: the next index, the hazards in order, whether it attached. Declined: one hazard or none.
+-- Refused: a number of the documents. Starting, finishing and the moves say only "done".
 pub data Said : Type 0 where
   applied : ℕ → List Range → Bool → Said
   declined : List Range → Said
@@ -40,9 +40,9 @@ refusalNumber Index = 5
 refusalNumber Subtable = 6
 refusalNumber Endless = 7
 
-abbrev pub rangeOf : Kind → ℕ → ℕ → Range
-rangeOf Break s e = break s e
-rangeOf Concat s e = concat s e
+abbrev pub rangeOf : HazardKind → ℕ → ℕ → Range
+rangeOf UnsafeToBreak s e = unsafeToBreak s e
+rangeOf UnsafeToConcat s e = unsafeToConcat s e
 
 abbrev pub range : Hazard → Range
 range h = rangeOf (h .kind) (h .start) (h .end)

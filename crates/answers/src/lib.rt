@@ -1,44 +1,46 @@
-// What the calls answer, in one place: cores and public calls use the same types. specs/Said.antt gives the documents' words and numbers for each case.
+// What the calls answer, in one place: cores and public calls use the same types. specs/Said.antt gives the documents'
+// words and numbers for each case.
 ghost use mathlib.Core.List.{[], _∷_};
 ghost use mathlib.Core.Path.{_≡_};
-ghost use Rattle.answers.specs.Said.{break, concat, range, ranges, refusalNumber};
+ghost use Rattle.answers.specs.Said.{unsafeToBreak, unsafeToConcat, range, ranges, refusalNumber};
 
-// The other glyph of a pair or of a cursive attachment: the slot that the caller names, or none, with the bound that it names instead.
+// The other glyph of a pair or of a cursive attachment: the slot that the caller names, or none, with the bound that it
+// names instead.
 pub enum Neighbour {
-    At(usize),
+    Named(usize),
     Missing(usize),
 }
 
 // A hazard is unsafe to break or unsafe to concatenate.
-pub enum Kind {
-    Break,
-    Concat,
+pub enum HazardKind {
+    UnsafeToBreak,
+    UnsafeToConcat,
 }
 
 // From start up to end, end not included; as named, also past the line's end.
 pub struct Hazard {
-    pub kind: Kind,
+    pub kind: HazardKind,
     pub start: usize,
     pub end: usize,
 }
 
 // Unsafe to break.
-pub fn break_range(start: usize, end: usize) -> Hazard
-    ensures { λ r. ⌜ range r ≡ break start end ⌝ }
+pub fn unsafe_to_break(start: usize, end: usize) -> Hazard
+    ensures { λ r. ⌜ range r ≡ unsafeToBreak start end ⌝ }
 {
     Hazard {
-        kind: Kind::Break,
+        kind: HazardKind::UnsafeToBreak,
         start: start,
         end: end,
     }
 }
 
 // Unsafe to concatenate.
-pub fn concat_range(start: usize, end: usize) -> Hazard
-    ensures { λ r. ⌜ range r ≡ concat start end ⌝ }
+pub fn unsafe_to_concat(start: usize, end: usize) -> Hazard
+    ensures { λ r. ⌜ range r ≡ unsafeToConcat start end ⌝ }
 {
     Hazard {
-        kind: Kind::Concat,
+        kind: HazardKind::UnsafeToConcat,
         start: start,
         end: end,
     }
@@ -52,10 +54,10 @@ pub enum Hazards {
 }
 
 // The hazards of a miss: with another glyph in the range, the lookup might have found what it looked for.
-pub fn concat_from(start: usize, end: usize) -> Hazards
-    ensures { λ r. ⌜ ranges r ≡ concat start end ∷ [] ⌝ }
+pub fn miss(start: usize, end: usize) -> Hazards
+    ensures { λ r. ⌜ ranges r ≡ unsafeToConcat start end ∷ [] ⌝ }
 {
-    Hazards::One(concat_range(start, end))
+    Hazards::One(unsafe_to_concat(start, end))
 }
 
 // Why a call is refused, in the order of document 01's table, 1 to 7.
@@ -108,7 +110,8 @@ pub enum Answer {
 pub enum Moved {
     Done,
     Refused(Refusal),
-    // Refusal 10, which is theirs alone: the target isn't exactly as long as the moved line, or a cluster would be lost.
+    // Refusal 10, which is theirs alone: the target isn't exactly as long as the moved line, or a cluster would be
+    // lost.
     Unfit,
 }
 

@@ -9,8 +9,9 @@ use borrow.Author.Tests.{le-ltb, lt-ltb}
 use lib.IntN.{ℤ, pos, negsuc, natAbs, negℤ}
 use lib.ListN.{length}
 use lib.Signed.{mag}
-use Rattle.ints.specs.Saturating.{negated}
-use Rattle.ints.specs.Signed.{InBytes, signed, val}
+use Rattle.ints.specs.Saturating.{satNeg}
+use Rattle.ints.specs.Signed.{InBytes, signed}
+use Rattle.ints.specs.code.Signed.{val}
 use Rattle.ints.proofs.Ints.{by-sign, diff, sub-pos}
 use Rattle.ints.proofs.SaturatingLaws.{negated-exact}
 use Rattle.ints.proofs.SignedLaws.{signed-low, signed-same}
@@ -78,7 +79,7 @@ neg-fits (negsuc n) h ne =
     ⊎-elim (λ e. absurd (ne (ap negsuc e))) (λ l. omega arith) (eq-or-lt-of-le le)
 
 -- and code's negation of it does not saturate
-pub back-other : (v r : ℕ) → v < 4294967296 → (v ≡ 4294934528 → ⊥) → natAbs (val v) ≤ 32768 → val r ≡ negated (val v)
+pub back-other : (v r : ℕ) → v < 4294967296 → (v ≡ 4294934528 → ⊥) → natAbs (val v) ≤ 32768 → val r ≡ satNeg (val v)
     → (val r ≡ reach (negℤ (val v))) × InBytes 2 (val r)
 back-other v r lt ne h e =
     let m : mag (negℤ (val v)) < 32768 = neg-fits (val v) h (λ q. ne (least-bits v lt q)) in

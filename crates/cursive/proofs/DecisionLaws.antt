@@ -1,4 +1,4 @@
--- Code's decision and the plan. Assumes nothing.
+-- Code's plan and the plan. Assumes nothing.
 use mathlib.Core.Bool.{true}
 use mathlib.Core.List.{List, [], _∷_}
 use mathlib.Core.Path.{_≡_, refl, sym, ap, _∙_}
@@ -6,13 +6,13 @@ use Prim.Native.Nat.{ℕ, _+_}
 use Rattle.slots.specs.Slot.{Slot}
 use Rattle.slots.specs.Line.{slot}
 use Rattle.slots.specs.declared.axis.Direction.{Direction}
-use Rattle.tables.specs.Anchor.{Spot}
+use Rattle.tables.specs.Anchor.{Point}
 use Rattle.tables.specs.declared.coverage.Covered.{Covered}
-use Rattle.answers.specs.Outcome.{Effect}
-use Rattle.answers.specs.Said.{applied, break, declined, Range}
+use Rattle.answers.specs.code.Effect.{Effect}
+use Rattle.answers.specs.Said.{applied, unsafeToBreak, declined, Range}
 use Rattle.answers.specs.declared.Neighbour.{Neighbour}
 use Rattle.cursive.specs.Attachment.{joinedAt, planned}
-use Rattle.cursive.specs.CursivePos.{fromCovered, indexOf, join, Plan, planOf, planSaid, stop}
+use Rattle.cursive.specs.CursivePos.{afterCovered, indexOf, join, Plan, planOf, planSaid, stop}
 
 -- a match told that x is y: the result for y is that for x
 pub told : {A B : Type 0} (f : A → B) {x y : A} {r : B} → x ≡ y → r ≡ f y → r ≡ f x
@@ -24,15 +24,15 @@ found f e l = told f (sym e) l
 
 -- the plan goes by the coverage that code found for the glyph that it read
 pub plan-is : (t : List ℕ) (ss : List Slot) (idx : ℕ) (n : Neighbour) {g : ℕ} {was q : Covered} {r : Plan} → g ≡ slot ss idx .glyph → was ≡ indexOf t g → was ≡ q
-    → r ≡ fromCovered t ss idx n q → r ≡ planOf t ss idx n
+    → r ≡ afterCovered t ss idx n q → r ≡ planOf t ss idx n
 unfolding planOf
-plan-is t ss idx n g-is was-is e l = l ∙ ap (fromCovered t ss idx n) (sym e ∙ was-is ∙ ap (indexOf t) g-is)
+plan-is t ss idx n g-is was-is e l = l ∙ ap (afterCovered t ss idx n) (sym e ∙ was-is ∙ ap (indexOf t) g-is)
 
 -- what is said and done of a plan
 module _ (s u : ℕ) (d : Direction) (flag idx : ℕ) (plan : Plan) (ss : List Slot) where
   pub effect-stop : (hs : List Range) → stop hs ≡ plan → Effect ss (planSaid idx plan) (planned s u d flag idx plan ss) (declined hs) ss
   effect-stop hs e = rw (← e) (record { answer = refl; slots-are = refl })
 
-  pub effect-join : (i : ℕ) (exit entry : Spot) (ss₁ : List Slot) → join i exit entry ≡ plan → ss₁ ≡ joinedAt s u d flag i idx exit entry ss
-      → Effect ss (planSaid idx plan) (planned s u d flag idx plan ss) (applied (idx + 1) (break i (idx + 1) ∷ []) true) ss₁
+  pub effect-join : (i : ℕ) (exit entry : Point) (ss₁ : List Slot) → join i exit entry ≡ plan → ss₁ ≡ joinedAt s u d flag i idx exit entry ss
+      → Effect ss (planSaid idx plan) (planned s u d flag idx plan ss) (applied (idx + 1) (unsafeToBreak i (idx + 1) ∷ []) true) ss₁
   effect-join i exit entry ss₁ e l = rw (← e) (record { answer = refl; slots-are = l })

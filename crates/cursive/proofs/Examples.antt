@@ -8,17 +8,17 @@ use Rattle.ints.specs.BigEndian.{natAt}
 use Rattle.ints.specs.Saturating.{clamp32, minus}
 use Rattle.ints.specs.Scale.{floorDiv, scaled}
 use Rattle.ints.specs.Signed.{intAt, signed}
-use Rattle.counts.specs.Tally.{bit, tally}
+use Rattle.ints.specs.Tally.{bit, tally}
 use Rattle.slots.specs.Slot.{Slot}
 use Rattle.slots.specs.Line.{update}
 use Rattle.slots.specs.Parent.{cleared, parent}
 use Rattle.slots.specs.declared.axis.Axis.the-variants.{Y}
 use Rattle.slots.specs.declared.axis.Direction.the-variants.{BottomToTop, LeftToRight, RightToLeft}
-use Rattle.tables.specs.Anchor.{Spot}
+use Rattle.tables.specs.Anchor.{Point}
 use Rattle.tables.specs.Spans.{firstHolding, spanAt, spansFrom}
-use Rattle.answers.specs.Said.{concat}
+use Rattle.answers.specs.Said.{unsafeToConcat}
 use Rattle.answers.specs.declared.Neighbour.{Neighbour}
-use Rattle.answers.specs.declared.Neighbour.the-variants.{At, Missing}
+use Rattle.answers.specs.declared.Neighbour.the-variants.{Named, Missing}
 use Rattle.cursive.specs.Attachment.{joinedAt, separatedBy, tied}
 use Rattle.cursive.specs.Chains.{attachedCount, chainTo}
 use Rattle.cursive.specs.CursivePos.{join, Plan, planOf, stop}
@@ -68,7 +68,7 @@ pub looping : reversed Y (hanging (pos 1) (pos 5) ∷ hanging (minus 1) (pos 7) 
 unfolding reversed reversedIn turned cleared attachedCount tally bit update parent clamp32
 looping = refl
 
-abbrev spotAt : ℤ → ℤ → Spot
+abbrev spotAt : ℤ → ℤ → Point
 spotAt x y = record { x = x; y = y }
 
 -- bottom to top, flag clear, exit (20, 500), entry (5, 30): slot 0 is pulled back by 500, and slot 1's y advance is the entry's y alone
@@ -92,8 +92,8 @@ abbrev after : ℕ → ℕ → Neighbour → Plan
 after g h n = planOf halves (glyphSlot g 0 (pos 0) (pos 0) (pos 0) (pos 0) (pos 0) ∷ glyphSlot h 0 (pos 0) (pos 0) (pos 0) (pos 0) (pos 0) ∷ []) 1 n
 
 -- no entry anchor declines before a missing previous is told of; previous missing, from the end; previous uncovered; no exit anchor; both there
-pub plans : after 5 5 (Missing 0) ∷ after 5 6 (Missing 2) ∷ after 4 6 (At 0) ∷ after 6 6 (At 0) ∷ after 5 6 (At 0) ∷ []
-    ≡ (stop [] ∷ stop (concat 2 2 ∷ []) ∷ stop [] ∷ stop (concat 0 2 ∷ []) ∷ join 0 (spotAt (pos 3) (pos 4)) (spotAt (pos 3) (pos 4)) ∷ [])
+pub plans : after 5 5 (Missing 0) ∷ after 5 6 (Missing 2) ∷ after 4 6 (Named 0) ∷ after 6 6 (Named 0) ∷ after 5 6 (Named 0) ∷ []
+    ≡ (stop [] ∷ stop (unsafeToConcat 2 2 ∷ []) ∷ stop [] ∷ stop (unsafeToConcat 0 2 ∷ []) ∷ join 0 (spotAt (pos 3) (pos 4)) (spotAt (pos 3) (pos 4)) ∷ [])
 unfolding planOf natAt intAt signed spansFrom spanAt firstHolding
 plans = refl
 

@@ -8,22 +8,21 @@ use lib.Dec.{eqb}
 use lib.IntN.{ℤ, natAbs, negℤ}
 use lib.ListN.{length}
 use Rattle.ints.specs.Choice.{if_then_else_}
-use Rattle.ints.specs.Saturating.{negated}
-use Rattle.ints.specs.Signed.{val}
+use Rattle.ints.specs.Saturating.{satNeg}
+use Rattle.ints.specs.code.Signed.{val}
 use Rattle.ints.proofs.SizeLaws.{abs-zero}
 use Rattle.ints.proofs.TestLaws.{clash}
 use Rattle.slots.specs.Slot.{Slot}
 use Rattle.slots.specs.Line.{slot, update}
 use Rattle.slots.specs.Fields.{attached, cursiveBit, offset, withChain, withMeasure}
-use Rattle.slots.specs.Parent.{byParent, cleared, parent}
+use Rattle.slots.specs.Parent.{byParent, cleared, parent, isAttached}
 use Rattle.slots.specs.declared.axis.Axis.{Axis}
 use Rattle.slots.specs.declared.fields.Measure.the-variants.{Offset}
 use Rattle.slots.specs.declared.parent.Parent.{Parent}
-use Rattle.slots.specs.declared.parent.Parent.the-variants.{None, Outside, At}
+use Rattle.slots.specs.declared.parent.Parent.the-variants.{None, Outside, InLine}
 use Rattle.slots.proofs.LineLaws.{length-update}
 use Rattle.slots.proofs.ParentLaws.{cleared-count, cleared-is, cleared-other, cleared-own, parent-none}
-use Rattle.counts.proofs.TallyLaws.{tally-drop}
-use Rattle.slots.specs.Parent.{isAttached}
+use Rattle.ints.proofs.TallyLaws.{tally-drop}
 use Rattle.cursive.specs.Chains.{attachedCount, reach}
 use Rattle.cursive.specs.Reversal.{reversed, reversedIn, turned}
 
@@ -53,7 +52,7 @@ ways : (P : List Slot → Type 0) (same clear : List Slot) (on : ℕ → List Sl
 ways P same clear on p s c o false q = s
 ways P same clear on p s c o true None = s
 ways P same clear on p s c o true Outside = c
-ways P same clear on p s c o true (At j) = go (eqb j p)
+ways P same clear on p s c o true (InLine j) = go (eqb j p)
   where
     go : (t : Bool) → P (if t then clear else on j)
     go true = c
@@ -107,9 +106,9 @@ module _ (a : Axis) (ss : List Slot) (i p : ℕ) where
     reversed-outside e =
         rw (fuel Outside e (λ n. clash (cc))) (simp (bit, e))
 
-    module _ (j : ℕ) (e : parent ss i ≡ At j) where
+    module _ (j : ℕ) (e : parent ss i ≡ InLine j) where
       fuel-at : attachedCount ss ≡ suc (attachedCount (cleared ss i))
-      fuel-at = fuel (At j) e (λ n. clash (cc))
+      fuel-at = fuel (InLine j) e (λ n. clash (cc))
 
       -- the new parent: the chain is cleared
       pub reversed-new : j ≡ p → reversed a ss i p ≡ cleared ss i
@@ -139,16 +138,16 @@ module _ (a : Axis) (ss : List Slot) (i p : ℕ) {kind : ℕ} (is : kind ≡ slo
     pub ends-outside : parent ss i ≡ Outside → ss₁ ≡ reversed a ss i p
     ends-outside e = is-cleared ∙ sym (reversed-outside a ss i p lt bit e)
 
-    pub ends-new : (j : ℕ) → parent ss i ≡ At j → j ≡ p → ss₁ ≡ reversed a ss i p
+    pub ends-new : (j : ℕ) → parent ss i ≡ InLine j → j ≡ p → ss₁ ≡ reversed a ss i p
     ends-new j e new = is-cleared ∙ sym (reversed-new a ss i p lt bit j e new)
 
     -- the number of attached slots falls
-    pub falls-at : (j : ℕ) → parent ss i ≡ At j → attachedCount ss ≡ suc (attachedCount ss₁)
+    pub falls-at : (j : ℕ) → parent ss i ≡ InLine j → attachedCount ss ≡ suc (attachedCount ss₁)
     falls-at j e = rw is-cleared (fuel-at a ss i p lt bit j e)
 
     -- else: recursion, and the parent hung with what was read after it
-    pub goes-on : (j : ℕ) → parent ss i ≡ At j → (j ≡ p → ⊥) → {ss₂ ss₃ : List Slot} {chain off neg back : ℤ} → chain ≡ slot ss i .chain
-        → ss₂ ≡ reversed a ss₁ j p → off ≡ offset a (slot ss₂ i) → neg ≡ negated off → back ≡ reach (negℤ chain)
+    pub goes-on : (j : ℕ) → parent ss i ≡ InLine j → (j ≡ p → ⊥) → {ss₂ ss₃ : List Slot} {chain off neg back : ℤ} → chain ≡ slot ss i .chain
+        → ss₂ ≡ reversed a ss₁ j p → off ≡ offset a (slot ss₂ i) → neg ≡ satNeg off → back ≡ reach (negℤ chain)
         → ss₃ ≡ update j (λ s. attached kind back (withMeasure Offset a neg s)) ss₂ → ss₃ ≡ reversed a ss i p
     unfolding turned
     goes-on j e other {ss₂} chain-is after off-is neg-is back-is hangs =

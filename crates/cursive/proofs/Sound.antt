@@ -7,7 +7,7 @@ use lib.IntN.{ℤ, pos, negℤ}
 use lib.ListN.{length}
 use native.Mathlib.Omega.{arith}
 use Rattle.ints.proofs.Ints.{diff, neg-diff}
-use Rattle.ints.specs.Saturating.{negated}
+use Rattle.ints.specs.Saturating.{satNeg}
 use Rattle.slots.specs.Slot.{Slot}
 use Rattle.slots.specs.Line.{slot}
 use Rattle.slots.specs.Fields.{attached, cursiveBit, offset, withChain, withMeasure}
@@ -15,7 +15,7 @@ use Rattle.slots.specs.Parent.{cleared, parent}
 use Rattle.slots.specs.declared.axis.Axis.{Axis}
 use Rattle.slots.specs.declared.axis.Axis.the-variants.{X, Y}
 use Rattle.slots.specs.declared.fields.Measure.the-variants.{Offset}
-use Rattle.slots.specs.declared.parent.Parent.the-variants.{None, At}
+use Rattle.slots.specs.declared.parent.Parent.the-variants.{None, InLine}
 use Rattle.slots.proofs.ChainLaws.{near-fits}
 use Rattle.slots.proofs.FieldLaws.{measure-chain}
 use Rattle.slots.proofs.LineLaws.{update-other, update-same}
@@ -30,7 +30,7 @@ use Rattle.cursive.proofs.ReversalLaws.{length-turned, reversed-free, r
 pub record Link (ss : List Slot) (i j : ℕ) : Type 0 where
   pub in-line : i < length ss
   pub cursive : cursiveBit (slot ss i .attachType) ≡ true
-  pub hangs-on : parent ss i ≡ At j
+  pub hangs-on : parent ss i ≡ InLine j
 
 -- from slot i the parents are js, in this order, and the last slot hangs on nothing
 abbrev pub Chain : List Slot → ℕ → List ℕ → Type 0
@@ -56,7 +56,7 @@ pub record SoundChain (ss : List Slot) (i p : ℕ) (js : List ℕ) : Type 0 wher
 -- ---- what reversal does
 -- a slot hung onto the slot `child`, which hung on it: by the child's type and negated chain, with the child's offset, negated; all else as it was
 abbrev pub hungOnto : Axis → Slot → Slot → Slot
-hungOnto a child s = attached (child .attachType) (reach (negℤ (child .chain))) (withMeasure Offset a (negated (offset a child)) s)
+hungOnto a child s = attached (child .attachType) (reach (negℤ (child .chain))) (withMeasure Offset a (satNeg (offset a child)) s)
 
 -- each of js has been hung onto the one before it (i is before the first)
 abbrev pub AllTurned : Axis → List Slot → List Slot → ℕ → List ℕ → Type 0
@@ -66,7 +66,7 @@ AllTurned a ss r i (j ∷ js) = (slot r j ≡ hungOnto a (slot ss i) (slot ss j)
 -- each of js hangs on the one before it
 abbrev pub Backwards : List Slot → ℕ → List ℕ → Type 0
 Backwards r i [] = Unit {0}
-Backwards r i (j ∷ js) = (parent r j ≡ At i) × Backwards r j js
+Backwards r i (j ∷ js) = (parent r j ≡ InLine i) × Backwards r j js
 
 -- from ss to r, the chain from slot i over the slots js is reversed
 pub record Reversed (a : Axis) (ss : List Slot) (i : ℕ) (js : List ℕ) (r : List Slot) : Type 0 where
@@ -106,8 +106,8 @@ hung-again X t c d z s = refl
 hung-again Y t c d z s = refl
 
 -- in a line whose distances fit a chain, a slot's chain, negated, leads back from its parent
-leads-back : (ss r : List Slot) (i j : ℕ) → length r ≡ length ss → length ss ≤ 32768 → i < length ss → (i ≡ j → ⊥) → parent ss i ≡ At j
-    → slot r j .chain ≡ reach (negℤ (slot ss i .chain)) → parent r j ≡ At i
+leads-back : (ss r : List Slot) (i j : ℕ) → length r ≡ length ss → length ss ≤ 32768 → i < length ss → (i ≡ j → ⊥) → parent ss i ≡ InLine j
+    → slot r j .chain ≡ reach (negℤ (slot ss i .chain)) → parent r j ≡ InLine i
 leads-back ss r i j n short h ne on is =
     let k : j < length ss = parent-in-line ss i j on in
     let back : slot r j .chain ≡ diff i j = is ∙ ap (λ z. reach (negℤ z)) (chain-is ss i j on) ∙ ap reach (neg-diff j i) ∙ reach-near (diff i j) (near-fits i j (omega arith) (omega arith)) in

@@ -7,12 +7,13 @@ use lib.ListN.{length}
 use lib.Signed.{mag}
 use Rattle.ints.specs.Choice.{if_then_else_}
 use Rattle.slots.specs.Slot.{Slot}
-use Rattle.slots.specs.Parent.{isAttached}
-use Rattle.counts.specs.Tally.{tally}
+use Rattle.slots.specs.Parent.{chainLimit, isAttached}
+use Rattle.ints.specs.Tally.{tally}
 
--- the chain for a distance: 0, not attached, where the distance doesn't fit 16 bits
+-- The chain for a distance: 0, not attached, where the distance doesn't fit 16 bits, as in HarfBuzz. A line of 1,024
+-- slots has no such distance. (`mag` of -n is n - 1.)
 abbrev pub reach : ℤ → ℤ
-reach z = if ltb (mag z) 32768 then z else pos 0
+reach z = if ltb (mag z) chainLimit then z else pos 0
 
 -- the chain by which a child hangs on a parent
 abbrev pub chainTo : ℕ → ℕ → ℤ

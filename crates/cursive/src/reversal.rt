@@ -1,6 +1,6 @@
 // Reversal of an old chain (`reverse_cursive_minor_offset`), to any depth; any line, loops too.
+use crate::chains::attach_slot;
 use crate::chains::chain_back;
-use crate::chains::hang;
 use ints::saturating::sat_neg;
 use slots::axis::Axis;
 use slots::fields::ByteField;
@@ -8,15 +8,17 @@ use slots::fields::Measure;
 use slots::parent::Parent;
 use slots::shape::Shape;
 ghost use mathlib.Core.Path.{_≡_};
-ghost use Rattle.slots.specs.Line.{Inside, shapeWith, slots};
+ghost use Rattle.slots.specs.code.Shape.{Inside};
+ghost use Rattle.slots.specs.Line.{shapeWith, slots};
 ghost use Rattle.cursive.specs.Reversal.{reversed};
 
-// The chain from slot i is reversed, so that it ends at the new parent p: each chain is cleared on the way in, and each parent hung onto its child on
-// the way out. A call that goes on has cleared a chain: the number of attached slots falls. The shape goes as two numbers: a struct goes by pointer, which
-// takes stack at each level.
+// The chain from slot i is reversed, so that it ends at the new parent p: each chain is cleared on the way in, and each
+// parent hung onto its child on the way out. A call that goes on has cleared a chain: the number of attached slots
+// falls. The shape goes as two numbers: a struct goes by pointer, which takes stack at each level.
 pub fn reverse(line: &mut [u8], size: usize, n: usize, a: Axis, i: usize, p: usize)
     requires { ⌜ Inside (shapeWith size n) (now line) i ⌝ }
-    ensures { λ _. ⌜ slots (shapeWith size n) (now (line .exit)) ≡ reversed a (slots (shapeWith size n) (now (line .entry))) i p ⌝ }
+    ensures { λ _. ⌜ slots (shapeWith size n) (now (line .exit))
+        ≡ reversed a (slots (shapeWith size n) (now (line .entry))) i p ⌝ }
 {
     let shape = Shape {
         size: size,
@@ -30,7 +32,7 @@ pub fn reverse(line: &mut [u8], size: usize, n: usize, a: Axis, i: usize, p: usi
     match parent {
         Parent::None => {}
         Parent::Outside => slots::fields::set_chain(line, shape, i, 0),
-        Parent::At(j) => {
+        Parent::InLine(j) => {
             let chain = slots::fields::chain(line, shape, i);
             slots::fields::set_chain(line, shape, i, 0);
             if j == p {
@@ -41,7 +43,7 @@ pub fn reverse(line: &mut [u8], size: usize, n: usize, a: Axis, i: usize, p: usi
             let offset = slots::fields::get(line, shape, i, Measure::Offset, a);
             let turned = sat_neg(offset);
             let back = chain_back(chain);
-            hang(line, shape, j, kind, back, a, turned);
+            attach_slot(line, shape, j, kind, back, a, turned);
         }
     }
 }

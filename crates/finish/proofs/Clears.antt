@@ -14,7 +14,7 @@ use Rattle.slots.specs.Line.{slot}
 use Rattle.slots.specs.Parent.{cleared, parent}
 use Rattle.slots.specs.declared.axis.Direction.{Direction}
 use Rattle.slots.specs.declared.parent.Parent.{Parent}
-use Rattle.slots.specs.declared.parent.Parent.the-variants.{None, Outside, At}
+use Rattle.slots.specs.declared.parent.Parent.the-variants.{None, Outside, InLine}
 use Rattle.slots.proofs.ParentLaws.{chain-zero, cleared-count, cleared-other, cleared-own}
 use Rattle.finish.specs.Finish.{finished, settled, settledDown, settledUp}
 use Rattle.finish.proofs.SettledLaws.{finished-count, joined-chain, settled-at, settled-holds, settled-none, settled-outside, settled-stop}
@@ -53,8 +53,8 @@ module _ (d : Direction) where
       go : (n : ℕ) (p : Parent) → parent m i ≡ p → chainAt (settled d n m i) i ≡ pos 0
       go n None e = rw (settled-none d m i n e) (chain-zero m i e)
       go n Outside e = rw (settled-outside d m i n e) (cleared-free m i)
-      go zero (At j) e = rw (settled-stop d m i j e) (cleared-free m i)
-      go (suc n) (At j) e = rw (settled-at d m i n j e) (joined-chain (settled d n (cleared m i) j) i d j i ∙ settled-keeps n (cleared m i) j i (cleared-free m i))
+      go zero (InLine j) e = rw (settled-stop d m i j e) (cleared-free m i)
+      go (suc n) (InLine j) e = rw (settled-at d m i n j e) (joined-chain (settled d n (cleared m i) j) i d j i ∙ settled-keeps n (cleared m i) j i (cleared-free m i))
 
   -- from a up to b no slot is attached
   abbrev Clear : ℕ → ℕ → List Slot → Type 0

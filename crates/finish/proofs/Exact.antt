@@ -20,15 +20,15 @@ use Rattle.slots.specs.declared.axis.Direction.{Direction}
 use Rattle.slots.specs.declared.fields.Measure.the-variants.{Offset}
 use Rattle.slots.proofs.FieldLaws.{free, measure-chain}
 use Rattle.slots.proofs.ParentLaws.{parent-in-line}
-use Rattle.finish.specs.Finish.{advances, isMain, Kind, mark, cursive, neither, kindOf, taken, walked, withOffsets}
-use Rattle.finish.specs.Demand3.{Bounded, pen}
+use Rattle.finish.specs.Finish.{advances, isMain, AttachKind, mark, cursive, neither, attachKind, newOffsetBy, shifted, withOffsets}
+use Rattle.finish.specs.theorems.Demand3.{Bounded, pen}
 use Rattle.finish.proofs.Along.{along, along-holds}
 use Rattle.finish.proofs.Pens.{pen-near, walk-exact, walked-by}
 use Rattle.finish.proofs.WalkLaws.{getD-advances}
 
 -- ---- the exact offsets
 -- the new offset on an axis, as `taken` has it, but exact; gap is the parent's pen place less the own one
-abbrev pub exact : Kind → Bool → ℤ → ℤ → ℤ → ℤ
+abbrev pub exact : AttachKind → Bool → ℤ → ℤ → ℤ → ℤ
 exact mark true gap own parents = own +ℤ parents +ℤ gap
 exact mark false gap own parents = own +ℤ gap
 exact cursive true gap own parents = own
@@ -37,7 +37,7 @@ exact neither main? gap own parents = own
 
 -- slot i's exact offset on an axis, on its parent j, which has become s
 abbrev pub exactOffset : Direction → List Slot → ℕ → ℕ → Slot → Axis → ℤ
-exactOffset d l i j s a = exact (kindOf (slot l i .attachType)) (isMain d a) (pen d a l j -ℤ pen d a l i) (offset a (slot l i)) (offset a s)
+exactOffset d l i j s a = exact (attachKind (slot l i .attachType)) (isMain d a) (pen d a l j -ℤ pen d a l i) (offset a (slot l i)) (offset a s)
 
 -- slot i on its parent j, which has become s
 abbrev pub onto : Direction → List Slot → ℕ → ℕ → Slot → Slot
@@ -106,7 +106,7 @@ module _ (d : Direction) (limit : ℕ) (l : List Slot) (ok : Bounded limit l) wh
       }
 
   -- a mark is drawn near where its parent is
-  anchored-on : (a : Axis) (n i j : ℕ) → i < length l → (k : Kind) (o : ℤ) → Anchored (pen d a l j) o n
+  anchored-on : (a : Axis) (n i j : ℕ) → i < length l → (k : AttachKind) (o : ℤ) → Anchored (pen d a l j) o n
       → Anchored (pen d a l i) (exact k true (pen d a l j -ℤ pen d a l i) (offset a (slot l i)) o) (suc n)
   anchored-on a n i j lt mark o h =
       record {
@@ -122,10 +122,10 @@ module _ (d : Direction) (limit : ℕ) (l : List Slot) (ok : Bounded limit l) wh
   anchored a m =
       along-holds l (λ k. free (slot l k)) (onto d l) (λ n i s. i < length l → Anchored (pen d a l i) (offset a s) n)
       (λ n i lt. rw (measure-chain Offset a (pos 0) (slot l i)) (anchored-own a n i lt))
-      (λ n i j s e up lt. rw (offset-onto d l i j s a, m) (anchored-on a n i j lt (kindOf (slot l i .attachType)) (offset a s) (up (parent-in-line l i j e))))
+      (λ n i j s e up lt. rw (offset-onto d l i j s a, m) (anchored-on a n i j lt (attachKind (slot l i .attachType)) (offset a s) (up (parent-in-line l i j e))))
 
   -- across the line each hop adds one offset at most, or starts from two pen places
-  small-on : (a : Axis) (n i j : ℕ) → i < length l → (k : Kind) (o : ℤ) → natAbs o ≤ suc n * 524288 + 1073741824
+  small-on : (a : Axis) (n i j : ℕ) → i < length l → (k : AttachKind) (o : ℤ) → natAbs o ≤ suc n * 524288 + 1073741824
       → natAbs (exact k false (pen d a l j -ℤ pen d a l i) (offset a (slot l i)) o) ≤ suc (suc n) * 524288 + 1073741824
   small-on a n i j lt mark o h =
       omega (
@@ -144,7 +144,7 @@ module _ (d : Direction) (limit : ℕ) (l : List Slot) (ok : Bounded limit l) wh
   small a m =
       along-holds l (λ k. free (slot l k)) (onto d l) (λ n i s. i < length l → natAbs (offset a s) ≤ suc n * 524288 + 1073741824)
       (λ n i lt. rw (measure-chain Offset a (pos 0) (slot l i)) (omega (arith, ok .offsets-near i a lt)))
-      (λ n i j s e up lt. rw (offset-onto d l i j s a, m) (small-on a n i j lt (kindOf (slot l i .attachType)) (offset a s) (up (parent-in-line l i j e))))
+      (λ n i j s e up lt. rw (offset-onto d l i j s a, m) (small-on a n i j lt (attachKind (slot l i .attachType)) (offset a s) (up (parent-in-line l i j e))))
 
   -- 65 times 524,288, and two pen places
   pub final-near : (a : Axis) (i : ℕ) → i < length l → natAbs (offset a (final d l limit i)) ≤ 1107820544
@@ -157,24 +157,24 @@ module _ (d : Direction) (limit : ℕ) (l : List Slot) (ok : Bounded limit l) wh
       go false e = omega (arith, small a e limit i lt, ok .nesting)
 
   -- so what finishing computes is exact
-  pub taken-exact : (a : Axis) (i j : ℕ) → i < length l → j < length l → (k : Kind) (b : Bool) (o : ℤ) → natAbs o ≤ 1107820544
-      → taken k b (walked d a l i j) (offset a (slot l i)) o ≡ exact k b (pen d a l j -ℤ pen d a l i) (offset a (slot l i)) o
+  pub taken-exact : (a : Axis) (i j : ℕ) → i < length l → j < length l → (k : AttachKind) (b : Bool) (o : ℤ) → natAbs o ≤ 1107820544
+      → newOffsetBy k b (shifted d a l i j) (offset a (slot l i)) o ≡ exact k b (pen d a l j -ℤ pen d a l i) (offset a (slot l i)) o
   taken-exact a i j hi hj k b o h = go k b
     where
       own : natAbs (offset a (slot l i)) ≤ 524288
       own = ok .offsets-near i a hi
 
-      walk : (z : ℤ) → natAbs z ≤ 1610612735 → walked d a l i j z ≡ z +ℤ (pen d a l j -ℤ pen d a l i)
+      walk : (z : ℤ) → natAbs z ≤ 1610612735 → shifted d a l i j z ≡ z +ℤ (pen d a l j -ℤ pen d a l i)
       walk z s =
           walked-by d a l i j z
           ∙ walk-exact 524288 (advances a l) (near-advances a) i j (omega (arith, length-map l (advance a))) (omega (arith, length-map l (advance a))) z
           (omega (arith, length-map l (advance a), ok .few-slots)) (forward d)
 
-      sum : taken cursive false (walked d a l i j) (offset a (slot l i)) o ≡ offset a (slot l i) +ℤ o
+      sum : newOffsetBy cursive false (shifted d a l i j) (offset a (slot l i)) o ≡ offset a (slot l i) +ℤ o
       sum = plus-exact (offset a (slot l i)) o (omega (arith, own))
 
-      go : (k : Kind) (b : Bool) → taken k b (walked d a l i j) (offset a (slot l i)) o ≡ exact k b (pen d a l j -ℤ pen d a l i) (offset a (slot l i)) o
-      go mark true = ap (walked d a l i j) sum ∙ walk (offset a (slot l i) +ℤ o) (omega (arith, own, abs-add (offset a (slot l i)) o))
+      go : (k : AttachKind) (b : Bool) → newOffsetBy k b (shifted d a l i j) (offset a (slot l i)) o ≡ exact k b (pen d a l j -ℤ pen d a l i) (offset a (slot l i)) o
+      go mark true = ap (shifted d a l i j) sum ∙ walk (offset a (slot l i) +ℤ o) (omega (arith, own, abs-add (offset a (slot l i)) o))
       go mark false = walk (offset a (slot l i)) (omega (arith, own))
       go cursive true = refl
       go cursive false = sum

@@ -13,10 +13,10 @@ use Rattle.slots.specs.declared.axis.Axis.the-variants.{X, Y}
 use Rattle.slots.specs.declared.axis.Direction.{Direction}
 use Rattle.slots.specs.declared.fields.Measure.{Measure}
 use Rattle.slots.specs.declared.fields.Measure.the-variants.{Advance, Offset}
-use Rattle.slots.specs.declared.parent.Parent.the-variants.{At}
+use Rattle.slots.specs.declared.parent.Parent.the-variants.{InLine}
 use Rattle.slots.proofs.ParentLaws.{none-ends}
 use Rattle.finish.specs.Finish.{finished}
-use Rattle.finish.specs.Demand3.{Bounded, Demand3, EndsWithin, Mark}
+use Rattle.finish.specs.theorems.Demand3.{Bounded, Demand3, EndsWithin, Mark}
 use Rattle.finish.proofs.Examples.{example}
 use Rattle.finish.proofs.Theorem.{demand3}
 
@@ -26,7 +26,7 @@ unfolding parent
 base zero = none-ends refl
 base (suc n) = λ j e. absurd (none-ends refl j e)
 
-one-hop : (n i k : ℕ) → parent example i ≡ At k → EndsWithin example n k → EndsWithin example (suc n) i
+one-hop : (n i k : ℕ) → parent example i ≡ InLine k → EndsWithin example n k → EndsWithin example (suc n) i
 one-hop n i k p h = λ j e. let same : k ≡ j = cc in subst (EndsWithin example n) same h
 
 -- from every slot at most 64 hops

@@ -19,8 +19,8 @@ use Rattle.slots.specs.Slot.{Slot}
 use Rattle.slots.specs.Fields.{advance}
 use Rattle.slots.specs.declared.axis.Axis.{Axis}
 use Rattle.slots.specs.declared.axis.Direction.{Direction}
-use Rattle.finish.specs.Finish.{advances, between, stepBy, subtracts, walked}
-use Rattle.finish.specs.Demand3.{penOf}
+use Rattle.finish.specs.Finish.{advances, between, stepBy, subtracts, shifted}
+use Rattle.finish.specs.theorems.Demand3.{penOf}
 use Rattle.finish.proofs.WalkLaws.{Side, between-is, side-is, walkPart}
 
 -- ---- the sum from the front, and the sum from the back, of what is between
@@ -124,13 +124,13 @@ map-between g false l i j = map-slice g (suc (min i j)) (suc (max i j)) l
 
 -- so the walk goes over the advances
 pub walked-by : (d : Direction) (a : Axis) (l : List Slot) (i j : ℕ) (z : ℤ)
-    → walked d a l i j z ≡ stepwise (stepBy (subtracts (ltb j i) (forward d))) z (between (forward d) (advances a l) i j)
-unfolding walked
+    → shifted d a l i j z ≡ stepwise (stepBy (subtracts (ltb j i) (forward d))) z (between (forward d) (advances a l) i j)
+unfolding shifted
 walked-by d a l i j z = ap (stepwise (stepBy (subtracts (ltb j i) (forward d))) z) (map-between (advance a) (forward d) l i j)
 
 -- lines of the same advances walk alike
-pub walked-same : (d : Direction) (a : Axis) (l m : List Slot) (i j : ℕ) → advances a m ≡ advances a l → walked d a m i j ≡ walked d a l i j
-unfolding walked
+pub walked-same : (d : Direction) (a : Axis) (l m : List Slot) (i j : ℕ) → advances a m ≡ advances a l → shifted d a m i j ≡ shifted d a l i j
+unfolding shifted
 walked-same d a l m i j e =
     ap (λ (zs : List ℤ). λ (z : ℤ). stepwise (stepBy (subtracts (ltb j i) (forward d))) z zs)
     (map-between (advance a) (forward d) m i j ∙ ap (λ zs. between (forward d) zs i j) e ∙ sym (map-between (advance a) (forward d) l i j))

@@ -8,7 +8,7 @@ use native.Mathlib.Numerals.{add-one}
 use native.Mathlib.Omega.{arith}
 use borrow.Author.Tests.{eqb-true, not-false}
 use lib.IntN.{natAbs}
-use Rattle.ints.specs.Signed.{val}
+use Rattle.ints.specs.code.Signed.{val}
 use Rattle.ints.proofs.SizeLaws.{abs-zero}
 use Rattle.slots.specs.Axis.{forward}
 use Rattle.slots.specs.Slot.{Slot}
@@ -17,15 +17,15 @@ use Rattle.slots.specs.Fields.{withChain}
 use Rattle.slots.specs.Parent.{cleared, isAttached, parent}
 use Rattle.slots.specs.declared.axis.Direction.{Direction}
 use Rattle.slots.specs.declared.parent.Parent.{Parent}
-use Rattle.slots.specs.declared.parent.Parent.the-variants.{None, Outside, At}
+use Rattle.slots.specs.declared.parent.Parent.the-variants.{None, Outside, InLine}
 use Rattle.slots.specs.declared.shape.Shape.{Shape}
 use Rattle.slots.proofs.LineLaws.{length-slots}
 use Rattle.slots.proofs.ParentLaws.{cleared-is, parent-in-line, parent-none}
-use Rattle.finish.specs.Finish.{finished, joined, settled, settledDown, settledUp}
+use Rattle.finish.specs.Finish.{finished, takenIn, settled, settledDown, settledUp}
 use Rattle.finish.proofs.SettledLaws.{settled-at, settled-none, settled-outside, settled-stop}
 
 -- a parent in the line is a slot of its bytes
-pub parent-counted : (w : Shape) (l : List ℕ) (i j : ℕ) {p : Parent} → p ≡ parent (slots w l) i → p ≡ At j → j < w .count
+pub parent-counted : (w : Shape) (l : List ℕ) (i j : ℕ) {p : Parent} → p ≡ parent (slots w l) i → p ≡ InLine j → j < w .count
 parent-counted w l i j is e = omega (arith, parent-in-line (slots w l) i j (sym is ∙ e), length-slots w l)
 
 module _ (d : Direction) (n : ℕ) (l : List Slot) (i : ℕ) {p : Parent} (is : p ≡ parent l i) where
@@ -39,14 +39,14 @@ module _ (d : Direction) (n : ℕ) (l : List Slot) (i : ℕ) {p : Parent} (is : 
     pub settles-outside : p ≡ Outside → l₁ ≡ settled d n l i
     settles-outside e = is-cleared ∙ sym (settled-outside d l i n (sym is ∙ e))
 
-    pub settles-stop : {j : ℕ} → p ≡ At j → n ≡ 0 → l₁ ≡ settled d n l i
+    pub settles-stop : {j : ℕ} → p ≡ InLine j → n ≡ 0 → l₁ ≡ settled d n l i
     settles-stop {j} e out = is-cleared ∙ sym (settled-stop d l i j (sym is ∙ e)) ∙ ap (λ (m : ℕ). settled d m l i) (sym out)
 
-    pub settles-at : {j : ℕ} {l₂ l₃ : List Slot} → p ≡ At j → (n ≡ 0 → ⊥) → l₂ ≡ settled d (n - 1) l₁ j → l₃ ≡ joined d l₂ i j → l₃ ≡ settled d n l i
+    pub settles-at : {j : ℕ} {l₂ l₃ : List Slot} → p ≡ InLine j → (n ≡ 0 → ⊥) → l₂ ≡ settled d (n - 1) l₁ j → l₃ ≡ takenIn d l₂ i j → l₃ ≡ settled d n l i
     settles-at {j} e left up joins =
         let more : 0 < n = pos-of-ne-zero left in
         let one : n ≡ suc (n - 1) = omega arith in
-        joins ∙ ap (λ m. joined d m i j) (up ∙ ap (λ m. settled d (n - 1) m j) is-cleared)
+        joins ∙ ap (λ m. takenIn d m i j) (up ∙ ap (λ m. settled d (n - 1) m j) is-cleared)
         ∙ sym (settled-at d l i (n - 1) j (sym is ∙ e)) ∙ ap (λ (m : ℕ). settled d m l i) (sym one)
 
 -- a slot that isn't attached, as code tests it: b

@@ -16,12 +16,12 @@ use Rattle.slots.specs.declared.axis.Axis.{Axis}
 use Rattle.slots.specs.declared.axis.Axis.the-variants.{X, Y}
 use Rattle.slots.specs.declared.axis.Direction.{Direction}
 use Rattle.slots.specs.declared.parent.Parent.{Parent}
-use Rattle.slots.specs.declared.parent.Parent.the-variants.{None, Outside, At}
+use Rattle.slots.specs.declared.parent.Parent.the-variants.{None, Outside, InLine}
 use Rattle.slots.specs.declared.fields.Measure.the-variants.{Advance}
 use Rattle.slots.proofs.FieldLaws.{free, measure-chain}
 use Rattle.slots.proofs.LineLaws.{length-update, update-other, update-same}
 use Rattle.slots.proofs.ParentLaws.{cleared-count}
-use Rattle.finish.specs.Finish.{advances, finished, joined, newOffset, settled, settledDown, settledUp, withOffsets}
+use Rattle.finish.specs.Finish.{advances, finished, takenIn, newOffset, settled, settledDown, settledUp, withOffsets}
 
 -- ---- one way through `settled` for each kind of parent
 module _ (d : Direction) (m : List Slot) (i : ℕ) where
@@ -36,11 +36,11 @@ module _ (d : Direction) (m : List Slot) (i : ℕ) where
   settled-outside (suc n) e = rw e
 
   -- the limit is used up
-  pub settled-stop : (j : ℕ) → parent m i ≡ At j → settled d zero m i ≡ cleared m i
+  pub settled-stop : (j : ℕ) → parent m i ≡ InLine j → settled d zero m i ≡ cleared m i
   unfolding settled
   settled-stop j e = rw e
 
-  pub settled-at : (n j : ℕ) → parent m i ≡ At j → settled d (suc n) m i ≡ joined d (settled d n (cleared m i) j) i j
+  pub settled-at : (n j : ℕ) → parent m i ≡ InLine j → settled d (suc n) m i ≡ takenIn d (settled d n (cleared m i) j) i j
   unfolding settled
   settled-at n j e = rw e
 
@@ -64,31 +64,31 @@ module _ (m : List Slot) (i : ℕ) where
     takes : Slot → Slot
     takes = withOffsets (newOffset d m i j X) (newOffset d m i j Y)
 
-    pub joined-count : length (joined d m i j) ≡ length m
-    unfolding joined takes
+    pub joined-count : length (takenIn d m i j) ≡ length m
+    unfolding takenIn takes
     joined-count = length-update i takes m
 
-    pub joined-advances : (a : Axis) → advances a (joined d m i j) ≡ advances a m
-    unfolding joined takes
+    pub joined-advances : (a : Axis) → advances a (takenIn d m i j) ≡ advances a m
+    unfolding takenIn takes
     joined-advances a = map-update (advance a) i takes m (advance-moved a (newOffset d m i j X) (newOffset d m i j Y) (slot m i))
 
-    pub joined-own : i < length m → slot (joined d m i j) i ≡ withOffsets (newOffset d m i j X) (newOffset d m i j Y) (slot m i)
-    unfolding joined takes
+    pub joined-own : i < length m → slot (takenIn d m i j) i ≡ withOffsets (newOffset d m i j X) (newOffset d m i j Y) (slot m i)
+    unfolding takenIn takes
     joined-own lt = update-same i takes m lt
 
-    pub joined-other : (k : ℕ) → (k ≡ i → ⊥) → slot (joined d m i j) k ≡ slot m k
-    unfolding joined takes
+    pub joined-other : (k : ℕ) → (k ≡ i → ⊥) → slot (takenIn d m i j) k ≡ slot m k
+    unfolding takenIn takes
     joined-other k ne = update-other i takes m k ne
 
-    pub joined-chain : (k : ℕ) → slot (joined d m i j) k .chain ≡ slot m k .chain
-    unfolding joined takes
+    pub joined-chain : (k : ℕ) → slot (takenIn d m i j) k .chain ≡ slot m k .chain
+    unfolding takenIn takes
     joined-chain k =
-        sym (List·getD-map (λ s. s .chain) (joined d m i j) k noSlot)
+        sym (List·getD-map (λ s. s .chain) (takenIn d m i j) k noSlot)
         ∙ ap (λ cs. getD cs k (noSlot .chain)) (map-update (λ s. s .chain) i takes m refl)
         ∙ List·getD-map (λ s. s .chain) m k noSlot
 
 -- ---- what clearing and joining keep, settling and finishing keep
-module _ (d : Direction) (P : List Slot → Type 0) (clears : (m : List Slot) (i : ℕ) → P m → P (cleared m i)) (joins : (m : List Slot) (i j : ℕ) → P m → P (joined d m i j)) where
+module _ (d : Direction) (P : List Slot → Type 0) (clears : (m : List Slot) (i : ℕ) → P m → P (cleared m i)) (joins : (m : List Slot) (i j : ℕ) → P m → P (takenIn d m i j)) where
   pub settled-holds : (n : ℕ) (m : List Slot) (i : ℕ) → P m → P (settled d n m i)
   unfolding settled
   settled-holds zero m i h = go (parent m i)
@@ -96,13 +96,13 @@ module _ (d : Direction) (P : List Slot → Type 0) (clears : (m : List Slot) (i
       go : (p : Parent) → P (byParent p m (cleared m i) (λ j. cleared m i))
       go None = h
       go Outside = clears m i h
-      go (At j) = clears m i h
+      go (InLine j) = clears m i h
   settled-holds (suc n) m i h = go (parent m i) (λ j. settled-holds n (cleared m i) j (clears m i h))
     where
-      go : (p : Parent) → ((j : ℕ) → P (settled d n (cleared m i) j)) → P (byParent p m (cleared m i) (λ j. joined d (settled d n (cleared m i) j) i j))
+      go : (p : Parent) → ((j : ℕ) → P (settled d n (cleared m i) j)) → P (byParent p m (cleared m i) (λ j. takenIn d (settled d n (cleared m i) j) i j))
       go None up = h
       go Outside up = clears m i h
-      go (At j) up = joins (settled d n (cleared m i) j) i j (up j)
+      go (InLine j) up = joins (settled d n (cleared m i) j) i j (up j)
 
   pub up-holds : (limit : ℕ) (l : List Slot) (k : ℕ) → P l → P (settledUp d limit l k)
   unfolding settledUp

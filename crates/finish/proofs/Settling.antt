@@ -18,12 +18,12 @@ use Rattle.slots.specs.declared.axis.Axis.{Axis}
 use Rattle.slots.specs.declared.axis.Axis.the-variants.{X, Y}
 use Rattle.slots.specs.declared.axis.Direction.{Direction}
 use Rattle.slots.specs.declared.parent.Parent.{Parent}
-use Rattle.slots.specs.declared.parent.Parent.the-variants.{None, Outside, At}
+use Rattle.slots.specs.declared.parent.Parent.the-variants.{None, Outside, InLine}
 use Rattle.slots.specs.declared.fields.Measure.the-variants.{Offset}
 use Rattle.slots.proofs.FieldLaws.{free, measure-chain}
 use Rattle.slots.proofs.ParentLaws.{at-hangs, chain-zero, child-in-line, cleared-count, cleared-other, cleared-own, none-ends, outside-ends, outside-hangs, parent-in-line, parent-none, parent-same}
-use Rattle.finish.specs.Finish.{advances, finished, isMain, joined, kindOf, newOffset, settled, settledDown, settledUp, withOffsets}
-use Rattle.finish.specs.Demand3.{Bounded}
+use Rattle.finish.specs.Finish.{advances, finished, isMain, takenIn, attachKind, newOffset, settled, settledDown, settledUp, withOffsets}
+use Rattle.finish.specs.theorems.Demand3.{Bounded}
 use Rattle.finish.proofs.Along.{along, along-at, along-end, along-holds}
 use Rattle.finish.proofs.Pens.{walked-same}
 use Rattle.finish.proofs.Exact.{exactOffset, final, final-near, onto, taken-exact}
@@ -53,13 +53,13 @@ module _ (d : Direction) (limit : ℕ) (l : List Slot) (ok : Bounded limit l) wh
   hops i = hopsIn l limit i
 
   -- by one hop, and where the chain ends
-  pub fin-at : (i j : ℕ) → parent l i ≡ At j → fin i ≡ onto d l i j (fin j)
+  pub fin-at : (i j : ℕ) → parent l i ≡ InLine j → fin i ≡ onto d l i j (fin j)
   fin-at i j e = along-at l (λ k. free (slot l k)) (onto d l) limit i j (ok .chains-end i (child-in-line l i j e)) e
 
-  pub fin-end : (i : ℕ) → ((j : ℕ) → parent l i ≡ At j → ⊥) → fin i ≡ free (slot l i)
+  pub fin-end : (i : ℕ) → ((j : ℕ) → parent l i ≡ InLine j → ⊥) → fin i ≡ free (slot l i)
   fin-end i h = along-end l (λ k. free (slot l k)) (onto d l) limit i h
 
-  hops-at : (i j : ℕ) → parent l i ≡ At j → hops i ≡ suc (hops j)
+  hops-at : (i j : ℕ) → parent l i ≡ InLine j → hops i ≡ suc (hops j)
   hops-at i j e = along-at l (λ k. 0) (λ k j r. suc r) limit i j (ok .chains-end i (child-in-line l i j e)) e
 
   -- ---- a line on the way: as many slots, the same advances
@@ -70,7 +70,7 @@ module _ (d : Direction) (limit : ℕ) (l : List Slot) (ok : Bounded limit l) wh
   like-cleared : (m : List Slot) (i : ℕ) → Like m → Like (cleared m i)
   like-cleared m i h = record { count = cleared-count m i ∙ h .count; advs = λ a. cleared-advances m i a ∙ h .advs a }
 
-  like-joined : (m : List Slot) (i j : ℕ) → Like m → Like (joined d m i j)
+  like-joined : (m : List Slot) (i j : ℕ) → Like m → Like (takenIn d m i j)
   like-joined m i j h = record { count = joined-count m i d j ∙ h .count; advs = λ a. joined-advances m i d j a ∙ h .advs a }
 
   like-settled : (n : ℕ) (m : List Slot) (i : ℕ) → Like m → Like (settled d n m i)
@@ -90,14 +90,14 @@ module _ (d : Direction) (limit : ℕ) (l : List Slot) (ok : Bounded limit l) wh
     changed : (k : ℕ) → Goes m m′ k
 
   -- a slot that has taken in its final parent is final
-  module _ (m : List Slot) (i j : ℕ) (same : Like m) (e : parent l i ≡ At j) (own : slot m i ≡ free (slot l i)) (par : slot m j ≡ fin j) where
+  module _ (m : List Slot) (i j : ℕ) (same : Like m) (e : parent l i ≡ InLine j) (own : slot m i ≡ free (slot l i)) (par : slot m j ≡ fin j) where
     new-exact : (a : Axis) → newOffset d m i j a ≡ exactOffset d l i j (fin j) a
     new-exact a =
         rw (walked-same d a l m i j (same .advs a), own, par, measure-chain Offset a (pos 0) (slot l i))
-        (taken-exact d limit l ok a i j (child-in-line l i j e) (parent-in-line l i j e) (kindOf (slot l i .attachType)) (isMain d a) (offset a (fin j))
+        (taken-exact d limit l ok a i j (child-in-line l i j e) (parent-in-line l i j e) (attachKind (slot l i .attachType)) (isMain d a) (offset a (fin j))
         (final-near d limit l ok a j (parent-in-line l i j e)))
 
-    joined-final : slot (joined d m i j) i ≡ fin i
+    joined-final : slot (takenIn d m i j) i ≡ fin i
     joined-final =
         joined-own m i d j (omega (arith, same .count, child-in-line l i j e))
         ∙ ap (withOffsets (newOffset d m i j X) (newOffset d m i j Y)) own
@@ -124,11 +124,11 @@ module _ (d : Direction) (limit : ℕ) (l : List Slot) (ok : Bounded limit l) wh
       go k (no ne) = inl (cleared-other m i k ne)
 
   -- a parent in the line, settled after this slot is cleared: it is taken in
-  hop : (n : ℕ) (m : List Slot) (i j : ℕ) → Like m → slot m i ≡ slot l i → parent l i ≡ At j
+  hop : (n : ℕ) (m : List Slot) (i j : ℕ) → Like m → slot m i ≡ slot l i → parent l i ≡ InLine j
       → Settled (cleared m i) j (settled d n (cleared m i) j) → Settled m i (settled d (suc n) m i)
   hop n m i j h own e up = rw (settled-at d m i n j on) (record { done = here; changed = λ k. go k (ℕ-discrete k i) })
     where
-      on : parent m i ≡ At j
+      on : parent m i ≡ InLine j
       on = parent-same l m i (h .count) own ∙ e
 
       m₂ : List Slot
@@ -141,34 +141,34 @@ module _ (d : Direction) (limit : ℕ) (l : List Slot) (ok : Bounded limit l) wh
       kept (inl same) = same ∙ waiting
       kept (inr new) = absurd (new .0 (ap (λ s. s .chain) waiting))
 
-      here : slot (joined d m₂ i j) i ≡ fin i
+      here : slot (takenIn d m₂ i j) i ≡ fin i
       here = joined-final m₂ i j (like-settled n (cleared m i) j (like-cleared m i h)) e (kept (up .changed i)) (up .done)
 
-      other : (k : ℕ) → (k ≡ i → ⊥) → Goes (cleared m i) m₂ k → Goes m (joined d m₂ i j) k
+      other : (k : ℕ) → (k ≡ i → ⊥) → Goes (cleared m i) m₂ k → Goes m (takenIn d m₂ i j) k
       other k ne (inl same) = inl (joined-other m₂ i d j k ne ∙ same ∙ cleared-other m i k ne)
       other k ne (inr new) = inr (rw (cleared-other m i k ne) at (new .0), joined-other m₂ i d j k ne ∙ new .1)
 
-      go : (k : ℕ) → Dec (k ≡ i) → Goes m (joined d m₂ i j) k
+      go : (k : ℕ) → Dec (k ≡ i) → Goes m (takenIn d m₂ i j) k
       go k (yes q) = inr (rw q (at-hangs m i j on, here))
       go k (no ne) = other k ne (up .changed k)
 
   -- settling a slot, given the case of a parent in the line
   turn : (n : ℕ) (m : List Slot) (i : ℕ) → i < length l → Like m → Good (hops i) m
-      → ((j : ℕ) → parent l i ≡ At j → slot m i ≡ slot l i → Settled m i (settled d n m i)) → Settled m i (settled d n m i)
+      → ((j : ℕ) → parent l i ≡ InLine j → slot m i ≡ slot l i → Settled m i (settled d n m i)) → Settled m i (settled d n m i)
   turn n m i lt h g up = go (g i (omega arith))
     where
       by : (p : Parent) → parent l i ≡ p → slot m i ≡ slot l i → Settled m i (settled d n m i)
       by None e own =
           idle n m i (parent-same l m i (h .count) own ∙ e) (own ∙ free-zero (slot l i) (chain-zero l i e) ∙ sym (fin-end i (none-ends e)))
       by Outside e own = cut n m i lt h own e
-      by (At j) e own = up j e own
+      by (InLine j) e own = up j e own
 
       go : (slot m i ≡ slot l i) ⊎ (slot m i ≡ fin i) → Settled m i (settled d n m i)
       go (inl own) = by (parent l i) refl own
       go (inr f) = idle n m i (parent-none m i (ap (λ s. s .chain) f ∙ final-chain d l limit i)) f
 
   -- with slot i cleared, the slots of fewer hops are as they were
-  good-cleared : (m : List Slot) (i j : ℕ) → parent l i ≡ At j → Good (hops i) m → Good (hops j) (cleared m i)
+  good-cleared : (m : List Slot) (i j : ℕ) → parent l i ≡ InLine j → Good (hops i) m → Good (hops j) (cleared m i)
   good-cleared m i j e g k le =
       let apart : k ≡ i → ⊥ = λ q. omega (arith, hops-at i j e, ap hops q) in
       rw (cleared-other m i k apart) (g k (omega (arith, hops-at i j e)))

@@ -11,15 +11,16 @@ use Rattle.ints.specs.Sums.{stepwise}
 use Rattle.ints.proofs.BigEndianLaws.{natAt-fits}
 use Rattle.ints.proofs.SaturatingLaws.{clamp-fits}
 use Rattle.slots.specs.Axis.{forward}
-use Rattle.slots.specs.Slot.{Slot, noSlot, slotSize, Storable}
-use Rattle.slots.specs.Line.{AllStorable, slot, update}
+use Rattle.slots.specs.Slot.{Slot, noSlot, slotSize}
+use Rattle.slots.specs.theorems.Storable.{Storable, AllStorable}
+use Rattle.slots.specs.Line.{slot, update}
 use Rattle.slots.specs.Fields.{offset, withChain}
 use Rattle.slots.specs.declared.axis.Axis.{Axis}
 use Rattle.slots.specs.declared.axis.Axis.the-variants.{X, Y}
 use Rattle.slots.specs.declared.axis.Direction.{Direction}
 use Rattle.slots.specs.Parent.{cleared}
 use Rattle.slots.proofs.FieldLaws.{free}
-use Rattle.finish.specs.Finish.{advances, between, finished, joined, Kind, mark, cursive, neither, kindOf, isMain, newOffset, stepBy, subtracts, taken, walked, withOffsets}
+use Rattle.finish.specs.Finish.{advances, between, finished, takenIn, AttachKind, mark, cursive, neither, attachKind, isMain, newOffset, stepBy, subtracts, newOffsetBy, shifted, withOffsets}
 use Rattle.finish.proofs.SettledLaws.{finished-holds}
 
 -- ---- one slot of a line
@@ -82,8 +83,8 @@ unfolding stepwise
 steps-fit b z [] h = h
 steps-fit b z (v ∷ zs) h = steps-fit b (stepBy b z v) zs (step-fits b z v)
 
-taken-fits : (k : Kind) (main? : Bool) (walk : ℤ → ℤ) → ((z : ℤ) → InBytes 4 z → InBytes 4 (walk z)) → (own parents : ℤ) → InBytes 4 own
-    → InBytes 4 (taken k main? walk own parents)
+taken-fits : (k : AttachKind) (main? : Bool) (walk : ℤ → ℤ) → ((z : ℤ) → InBytes 4 z → InBytes 4 (walk z)) → (own parents : ℤ) → InBytes 4 own
+    → InBytes 4 (newOffsetBy k main? walk own parents)
 taken-fits mark true walk w own parents h = w _ (clamp-fits (own +ℤ parents))
 taken-fits mark false walk w own parents h = w own h
 taken-fits cursive true walk w own parents h = h
@@ -93,9 +94,9 @@ taken-fits neither main? walk w own parents h = h
 module _ (z : ℕ) (d : Direction) where
   -- so slot i's new offset, the line cleared at i and the line joined at i
   new-fits : (l : List Slot) (i j : ℕ) (a : Axis) → AllStorable z l → InBytes 4 (newOffset d l i j a)
-  unfolding walked
+  unfolding shifted
   new-fits l i j a h =
-      taken-fits (kindOf (slot l i .attachType)) (isMain d a) (walked d a l i j)
+      taken-fits (attachKind (slot l i .attachType)) (isMain d a) (shifted d a l i j)
       (λ v g. steps-fit (subtracts (ltb j i) (forward d)) v (advances a (between (forward d) l i j)) g)
       (offset a (slot l i)) (offset a (slot l j)) (offset-fits a (slot l i) (slot-storable z l i h))
 
@@ -106,8 +107,8 @@ module _ (z : ℕ) (d : Direction) where
       let k = slot-storable z l i h in
       set-storable z l i (free s) (changed-storable (pos 0) (s .xOffset) (s .yOffset) s (omega arith) (k .x-offset-fits) (k .y-offset-fits) k) h
 
-  joined-storable : (l : List Slot) (i j : ℕ) → AllStorable z l → AllStorable z (joined d l i j)
-  unfolding joined update
+  joined-storable : (l : List Slot) (i j : ℕ) → AllStorable z l → AllStorable z (takenIn d l i j)
+  unfolding takenIn update
   joined-storable l i j h =
       let s = slot l i in
       let k = slot-storable z l i h in

@@ -14,12 +14,12 @@ use Rattle.slots.specs.declared.axis.Axis.{Axis}
 use Rattle.slots.specs.declared.axis.Direction.{Direction}
 use Rattle.slots.specs.declared.axis.Direction.the-variants.{LeftToRight, RightToLeft, TopToBottom, BottomToTop}
 use Rattle.slots.specs.declared.parent.Parent.{Parent}
-use Rattle.slots.specs.declared.parent.Parent.the-variants.{None, Outside, At}
+use Rattle.slots.specs.declared.parent.Parent.the-variants.{None, Outside, InLine}
 use Rattle.slots.specs.declared.fields.Measure.the-variants.{Advance, Offset}
 use Rattle.slots.proofs.FieldLaws.{free, measure-chain}
 use Rattle.slots.proofs.ParentLaws.{none-ends, outside-ends}
-use Rattle.finish.specs.Finish.{finished, isMain, kindOf, withOffsets}
-use Rattle.finish.specs.Demand3.{Bounded, Cursive, Demand3, Kept, Mark, pen}
+use Rattle.finish.specs.Finish.{finished, isMain, attachKind, withOffsets}
+use Rattle.finish.specs.theorems.Demand3.{Bounded, Cursive, Demand3, Kept, Mark, pen}
 use Rattle.finish.proofs.Along.{along-holds}
 use Rattle.finish.proofs.Exact.{exact, final, offset-onto, onto}
 use Rattle.finish.proofs.SettledLaws.{advance-moved, finished-advances, finished-count}
@@ -69,19 +69,19 @@ module _ (d : Direction) (limit : ℕ) (l : List Slot) (ok : Bounded limit l) wh
   l′ = finished d limit true l
 
   -- the new offset of a slot whose parent is in the line, and of one whose isn't
-  offset-at : (i j : ℕ) (a : Axis) → parent l i ≡ At j
-      → offset a (slot l′ i) ≡ exact (kindOf (slot l i .attachType)) (isMain d a) (pen d a l j -ℤ pen d a l i) (offset a (slot l i)) (offset a (slot l′ j))
+  offset-at : (i j : ℕ) (a : Axis) → parent l i ≡ InLine j
+      → offset a (slot l′ i) ≡ exact (attachKind (slot l i .attachType)) (isMain d a) (pen d a l j -ℤ pen d a l i) (offset a (slot l i)) (offset a (slot l′ j))
   offset-at i j a e = rw (finished-slot d limit l ok i, finished-slot d limit l ok j, fin-at d limit l ok i j e) (offset-onto d l i j (final d l limit j) a)
 
-  offset-end : (i : ℕ) (a : Axis) → ((j : ℕ) → parent l i ≡ At j → ⊥) → offset a (slot l′ i) ≡ offset a (slot l i)
+  offset-end : (i : ℕ) (a : Axis) → ((j : ℕ) → parent l i ≡ InLine j → ⊥) → offset a (slot l′ i) ≡ offset a (slot l i)
   offset-end i a h = rw (finished-slot d limit l ok i, fin-end d limit l ok i h) (measure-chain Offset a (pos 0) (slot l i))
 
   -- the slots that are neither a mark nor a cursive glyph
   untouched : (i : ℕ) (a : Axis) → ((j : ℕ) → Mark l i j → ⊥) → ((j : ℕ) → Cursive l i j → ⊥) → offset a (slot l′ i) ≡ offset a (slot l i)
   untouched i a no-mark no-cursive = go (parent l i) refl
     where
-      by : (j : ℕ) → parent l i ≡ At j → (k : ℕ) → slot l i .attachType ≡ k
-          → exact (kindOf k) (isMain d a) (pen d a l j -ℤ pen d a l i) (offset a (slot l i)) (offset a (slot l′ j)) ≡ offset a (slot l i)
+      by : (j : ℕ) → parent l i ≡ InLine j → (k : ℕ) → slot l i .attachType ≡ k
+          → exact (attachKind k) (isMain d a) (pen d a l j -ℤ pen d a l i) (offset a (slot l i)) (offset a (slot l′ j)) ≡ offset a (slot l i)
       by j e zero f = refl
       by j e (suc zero) f = absurd (no-mark j (record { type-is = f; parent-is = e }))
       by j e (suc (suc zero)) f = absurd (no-cursive j (record { type-is = f; parent-is = e }))
@@ -90,7 +90,7 @@ module _ (d : Direction) (limit : ℕ) (l : List Slot) (ok : Bounded limit l) wh
       go : (p : Parent) → parent l i ≡ p → offset a (slot l′ i) ≡ offset a (slot l i)
       go None e = offset-end i a (none-ends e)
       go Outside e = offset-end i a (outside-ends e)
-      go (At j) e = offset-at i j a e ∙ by j e (slot l i .attachType) refl
+      go (InLine j) e = offset-at i j a e ∙ by j e (slot l i .attachType) refl
 
   -- the theorem
   pub demand3 : Demand3 d l (finished d limit true l)

@@ -19,10 +19,10 @@ use Rattle.slots.specs.declared.axis.Axis.the-variants.{X, Y}
 use Rattle.slots.specs.declared.axis.Direction.{Direction}
 use Rattle.slots.specs.declared.axis.Direction.the-variants.{LeftToRight, RightToLeft, TopToBottom, BottomToTop}
 use Rattle.slots.specs.declared.parent.Parent.{Parent}
-use Rattle.slots.specs.declared.parent.Parent.the-variants.{None, Outside, At}
+use Rattle.slots.specs.declared.parent.Parent.the-variants.{None, Outside, InLine}
 use Rattle.slots.proofs.ParentLaws.{none-ends, outside-ends}
 use Rattle.finish.specs.Finish.{advances, finished}
-use Rattle.finish.specs.Demand3.{Bounded, Cursive, Demand3, EndsWithin, Kept, Mark, pen, penOf}
+use Rattle.finish.specs.theorems.Demand3.{Bounded, Cursive, Demand3, EndsWithin, Kept, Mark, pen, penOf}
 use Rattle.finish.proofs.WalkLaws.{getD-advances}
 use Rattle.finish.proofs.Theorem.{demand3}
 
@@ -69,10 +69,10 @@ module _ (d : Direction) (l m m′ : List Slot) (h : Demand3 d l m) (h′ : Dema
   same-neither : (i : ℕ) (a : Axis) → ((j : ℕ) → Mark l i j → ⊥) → ((j : ℕ) → Cursive l i j → ⊥) → offset a (slot m i) ≡ offset a (slot m′ i)
   same-neither i a k c = h .others i a k c ∙ sym (h′ .others i a k c)
 
-  same-end : (i : ℕ) (a : Axis) → ((j : ℕ) → parent l i ≡ At j → ⊥) → offset a (slot m i) ≡ offset a (slot m′ i)
+  same-end : (i : ℕ) (a : Axis) → ((j : ℕ) → parent l i ≡ InLine j → ⊥) → offset a (slot m i) ≡ offset a (slot m′ i)
   same-end i a f = same-neither i a (λ j u. f j (u .parent-is)) (λ j u. f j (u .parent-is))
 
-  module _ (i j : ℕ) (e : parent l i ≡ At j) (up : (a : Axis) → offset a (slot m j) ≡ offset a (slot m′ j)) where
+  module _ (i j : ℕ) (e : parent l i ≡ InLine j) (up : (a : Axis) → offset a (slot m j) ≡ offset a (slot m′ j)) where
     -- and, by the type, on a parent of the same offsets
     same-mark : slot l i .attachType ≡ 1 → (a : Axis) → (a ≡ main d) ⊎ (a ≡ cross d) → offset a (slot m i) ≡ offset a (slot m′ i)
     same-mark k a (inl q) =
@@ -106,10 +106,10 @@ module _ (d : Direction) (l m m′ : List Slot) (h : Demand3 d l m) (h′ : Dema
   same-off zero i f a = same-end i a f
   same-off (suc n) i f a = go (parent l i) refl (λ j e. same-off n j (f j e))
     where
-      go : (p : Parent) → parent l i ≡ p → ((j : ℕ) → parent l i ≡ At j → (a : Axis) → offset a (slot m j) ≡ offset a (slot m′ j)) → offset a (slot m i) ≡ offset a (slot m′ i)
+      go : (p : Parent) → parent l i ≡ p → ((j : ℕ) → parent l i ≡ InLine j → (a : Axis) → offset a (slot m j) ≡ offset a (slot m′ j)) → offset a (slot m i) ≡ offset a (slot m′ i)
       go None e up = same-end i a (none-ends e)
       go Outside e up = same-end i a (outside-ends e)
-      go (At j) e up = same-at i j e (up j e) (slot l i .attachType) refl a
+      go (InLine j) e up = same-at i j e (up j e) (slot l i .attachType) refl a
 
   -- slots of the same offsets are the same
   same-slot : (i : ℕ) → ((a : Axis) → offset a (slot m i) ≡ offset a (slot m′ i)) → slot m i ≡ slot m′ i

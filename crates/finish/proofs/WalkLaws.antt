@@ -19,7 +19,7 @@ use Rattle.slots.specs.Fields.{advance}
 use Rattle.slots.specs.declared.axis.Axis.{Axis}
 use Rattle.slots.specs.declared.axis.Axis.the-variants.{X, Y}
 use Rattle.slots.specs.declared.axis.Direction.{Direction}
-use Rattle.finish.specs.Finish.{advances, between, stepBy, subtracts, walked}
+use Rattle.finish.specs.Finish.{advances, between, stepBy, subtracts, shifted}
 
 -- the k-th of the advances is that of slot k
 pub getD-advances : (l : List Slot) (a : Axis) (k : ℕ) → getD (advances a l) k (pos 0) ≡ advance a (slot l k)
@@ -87,10 +87,10 @@ abbrev pub Stepped : Bool → List Slot → ℤ → ℤ → ℤ → ℤ → Type
 Stepped s m x y x′ y′ = (x′ ≡ stepwise (stepBy s) x (advances X m)) × (y′ ≡ stepwise (stepBy s) y (advances Y m))
 
 abbrev pub Walked : Direction → List Slot → ℕ → ℕ → ℤ → ℤ → ℤ → ℤ → Type 0
-Walked d l i j x y x′ y′ = (x′ ≡ walked d X l i j x) × (y′ ≡ walked d Y l i j y)
+Walked d l i j x y x′ y′ = (x′ ≡ shifted d X l i j x) × (y′ ≡ shifted d Y l i j y)
 
 -- the walk goes over the part
 pub walked-part : (d : Direction) (l : List Slot) (i j : ℕ) (f b : Bool) (x y : ℤ) {m : List Slot} {x′ y′ : ℤ} → forward d ≡ f → Side b i j → m ≡ walkPart f b l i j
     → Stepped (subtracts b f) m x y x′ y′ → Walked d l i j x y x′ y′
-unfolding walked
+unfolding shifted
 walked-part d l i j f b x y dir side is to = rw (side-is b i j side, dir, between-is f b l i j side, ← is) to

@@ -1,2 +1,2 @@
 pub mod Finish  -- finishing, as the source does it
-pub mod Demand3  -- demand 3: where glyphs are drawn afterwards
+pub mod theorems  -- what only theorems speak of

@@ -1,5 +1,6 @@
-// The finishing program: reads a line on standard input to its end, finishes it left to right with nesting limit 64, and prints its slots, or the
-// number of the refusal. The buffer holds more than the longest line, so that a longer input is refused and never cut.
+// The finishing program: reads a line on standard input to its end, finishes it left to right with nesting limit 64,
+// and prints its slots, or the number of the refusal. The buffer holds more than the longest line, so that a longer
+// input is refused and never cut.
 use answers::Done;
 use libc::STDIN_FILENO;
 use slots::shape::Cut;
@@ -7,7 +8,8 @@ use slots::shape::Shape;
 use slots::shape::cut_of;
 ghost use Prim.Native.Nat.{_≤_};
 ghost use lib.ListN.{length};
-ghost use Rattle.slots.specs.Line.{Fits, shapeWith};
+ghost use Rattle.slots.specs.code.Shape.{Fits};
+ghost use Rattle.slots.specs.Line.{shapeWith};
 
 // The n slots, a line each.
 fn show_slots(line: &[u8], n: usize)

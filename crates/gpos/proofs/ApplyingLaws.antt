@@ -1,103 +1,115 @@
--- The tests of an applying call, read one part after the other, and the ways through the call: refused, or handed to the core. Assumes nothing.
-use mathlib.Core.Path.{_≡_, ap, sym, _∙_}
-use mathlib.Core.Bool.{Bool, true, false}
+-- The ways through an applying call: refused by its checks, refused for its subtable, or handed to its core. Assumes nothing.
+use mathlib.Core.Path.{_≡_, refl, sym, ap, _∙_}
+use mathlib.Core.Bool.{Bool, true, false, not}
 use mathlib.Core.List.{List, [], _∷_}
 use Prim.Native.Nat.{ℕ}
 use lib.ListN.{length}
-use Rattle.ints.specs.BigEndian.{Bytes}
-use Rattle.ints.specs.Scale.{InScale}
+use Rattle.ints.specs.BigEndian.{AllBytes}
+use Rattle.ints.specs.code.Scale.{InScale}
 use Rattle.slots.specs.Axis.{directionOf}
+use Rattle.slots.specs.Checks.{badLine}
 use Rattle.slots.specs.Slot.{Slot}
-use Rattle.slots.specs.Line.{shapeWith, slots}
+use Rattle.slots.specs.code.Shape.{Inside}
+use Rattle.slots.specs.Line.{lineSlots, shapeOf, slots}
 use Rattle.slots.specs.declared.axis.Direction.{Direction}
+use Rattle.slots.specs.declared.shape.Shape.{Shape}
 use Rattle.slots.proofs.LineLaws.{length-slots}
-use Rattle.slots.proofs.ShapeLaws.{Whole}
-use Rattle.answers.specs.Said.{Said, done, refused, unless}
-use Rattle.answers.specs.Outcome.{Call, Effect, Made}
-use Rattle.answers.proofs.OutcomeLaws.{made-by, made-refused}
-use Rattle.answers.proofs.TestLaws.{clear-first, clear-parts, go-on, refused-early}
-use Rattle.gpos.specs.Tests.{applying, callTests, offScale, slotTests}
+use Rattle.answers.specs.Said.{done, refusalNumber, refused, Said, unless}
+use Rattle.answers.specs.Outcome.{answerTo, Call, Made}
+use Rattle.answers.specs.code.Effect.{MadeOn}
+use Rattle.answers.specs.declared.Refusal.{Refusal}
+use Rattle.answers.proofs.OutcomeLaws.{made-by, made-refused, outcome-refused}
+use Rattle.answers.proofs.TestLaws.{go-on, refused-early}
+use Rattle.gpos.specs.code.Checked.{SlotsChecked}
+use Rattle.gpos.specs.code.Neighbours.{badPlace}
+use Rattle.gpos.specs.Checks.{applying, badScale, slotTests}
+use Rattle.gpos.specs.declared.checks.Checked.{Checked}
+use Rattle.gpos.specs.declared.checks.Checked.the-variants.{Slots, Refused}
+use Rattle.gpos.specs.declared.neighbours.Beside.{Beside}
+use Rattle.gpos.proofs.CheckLaws.{Clear, clear}
+use Rattle.gpos.proofs.NeighbourLaws.{in-place, Near}
 use Rattle.gpos.proofs.TestLaws.{in-scale, number-good}
 
--- ---- the tests of refusals 2 to 5: those of the slots, then that of the index
-module _ (ss : List Slot) (direction s u : ℕ) (badIndex : Bool) where
-  abbrev first : List (Bool × ℕ)
-  first = slotTests ss direction (offScale s u)
-
-  abbrev index : List (Bool × ℕ)
-  index = (badIndex, 5) ∷ []
-
-  -- those of the slots refuse
-  pub slots-refused : (n : ℕ) → unless first done ≡ refused n → unless (callTests ss direction s u badIndex) done ≡ refused n
-  slots-refused n e = refused-early index done first n e
-
-  -- they don't, and that of the index decides
-  module _ (ok : unless first done ≡ done) where
-    pub index-refused : badIndex ≡ true → unless (callTests ss direction s u badIndex) done ≡ refused 5
-    index-refused e = go-on index done first ok ∙ rw e
-
-    pub none-refused : badIndex ≡ false → unless (callTests ss direction s u badIndex) done ≡ done
-    none-refused e = go-on index done first ok ∙ rw e
-
-  -- what is known where none refuses
-  pub record Allowed : Type 0 where
-    pub scale : InScale s u
-    pub place : badIndex ≡ false
-
-  allowed : unless (callTests ss direction s u badIndex) done ≡ done → Allowed
-  allowed e =
-      let parts = clear-parts first index e in
-      record { scale = in-scale s u (number-good ss direction (offScale s u) (parts .0)); place = clear-first badIndex 5 [] (parts .1) .0 }
-
--- ---- the call
--- its numbers, whether its index is bad in a line of so many slots and its subtable is, and, by the direction, what its core says and the slots that it leaves
+-- the call: its numbers, what is beside its index, whether its subtable is good, and its core by the direction
 pub record Parts : Type 0 where
   pub direction : ℕ
   pub s : ℕ
   pub u : ℕ
-  pub bad-index : ℕ → Bool
-  pub bad-subtable : Bool
-  pub says : Direction → List Slot → Said
-  pub leaves : Direction → List Slot → List Slot
+  pub index : ℕ
+  pub beside : Beside
+  pub good : Bool
+  pub core : Direction → Call
 
 abbrev pub callOf : Parts → Call
-callOf p = applying (p .direction) (p .s) (p .u) (λ ss. p .bad-index (length ss)) (p .bad-subtable) (p .says) (p .leaves)
+callOf p = applying (p .direction) (p .s) (p .u) (λ ss. badPlace (length ss) (p .index) (p .beside)) (not (p .good)) (p .core)
 
--- on a line of n slots of z bytes
-module _ (p : Parts) (z : ℕ) (l : List ℕ) {n : ℕ} (whole : Whole z l n) where
+-- what its checks found, refusals 1 to 4
+abbrev pub Looked : Parts → ℕ → List ℕ → Checked → Type 0
+Looked p z l x = SlotsChecked z l (p .direction) (badScale (p .s) (p .u)) x
+
+abbrev firstTests : Parts → List Slot → List (Bool × ℕ)
+firstTests p ss = slotTests ss (p .direction) (badScale (p .s) (p .u))
+
+abbrev lastTests : Parts → List Slot → List (Bool × ℕ)
+lastTests p ss = (badPlace (length ss) (p .index) (p .beside), 5) ∷ (not (p .good), 6) ∷ []
+
+-- what is known where they refuse nothing, and the line has the shape w
+abbrev pub Cleared : Parts → ℕ → List ℕ → Shape → Type 0
+Cleared p z l w = Clear z l (unless (firstTests p (lineSlots z l)) done) w
+
+-- and where the index is in its place too: all that the core requires but the subtable
+pub record Passed (p : Parts) (l : List ℕ) (w : Shape) : Type 0 where
+  pub inside : Inside w l (p .index)
+  pub near : Near (w .count) (p .index) (p .beside)
+  pub scale : InScale (p .s) (p .u)
+
+module _ (p : Parts) (z : ℕ) (l : List ℕ) where
   abbrev ss : List Slot
-  ss = slots (shapeWith z n) l
+  ss = lineSlots z l
 
-  abbrev pub tests : List (Bool × ℕ)
-  tests = callTests ss (p .direction) (p .s) (p .u) (p .bad-index (length ss))
+  -- what the core says
+  abbrev core-says : List Slot → Said
+  core-says = p .core (directionOf (p .direction)) .says
 
-  abbrev subtable : List (Bool × ℕ)
-  subtable = (p .bad-subtable, 6) ∷ []
+  pub refused-by : {x : Checked} (r : Refusal) → x ≡ Refused r → Looked p z l x → Made (callOf p) z l (refused (refusalNumber r)) l
+  refused-by r e looked =
+      outcome-refused z l (answerTo (callOf p) z l) (callOf p .leaves ss) (refusalNumber r)
+      (refused-early (lastTests p ss) (core-says ss) ((badLine z l, 1) ∷ firstTests p ss) (refusalNumber r) (rw e at looked))
 
-  abbrev says-core : Said
-  says-core = p .says (directionOf (p .direction)) ss
+  pub cleared : {x : Checked} (w : Shape) → x ≡ Slots w → Looked p z l x → Cleared p z l w
+  cleared w e looked = clear z l (unless (firstTests p ss) done) w e looked
 
-  index-is : p .bad-index (length ss) ≡ p .bad-index n
-  index-is = ap (p .bad-index) (length-slots (shapeWith z n) l)
+  module _ {w : Shape} (ok : Cleared p z l w) where
+    -- the index and the subtable decide
+    says-is : (b g : Bool) → badPlace (w .count) (p .index) (p .beside) ≡ b → not (p .good) ≡ g → callOf p .says (slots w l) ≡ unless ((b, 5) ∷ (g, 6) ∷ []) (core-says (slots w l))
+    says-is b g b-is g-is =
+        let long : length ss ≡ w .count = length-slots (shapeOf z l) l ∙ sym (ap (λ (v : Shape). v .count) (ok .shape-is)) in
+        let index = ap (λ (k : ℕ). badPlace k (p .index) (p .beside)) long ∙ b-is in
+        rw (ok .shape-is)
+        (go-on (lastTests p ss) (core-says ss) (firstTests p ss) (ok .none) ∙ ap (λ (c : Bool). unless ((c, 5) ∷ (not (p .good), 6) ∷ []) (core-says ss)) index
+        ∙ ap (λ (c : Bool). unless ((b, 5) ∷ (c, 6) ∷ []) (core-says ss)) g-is)
 
-  -- what code's checks said, x, by its own test of the index
-  pub checked : {x : Said} {i : Bool} → x ≡ unless (callTests ss (p .direction) (p .s) (p .u) i) done → i ≡ p .bad-index n → x ≡ unless tests done
-  checked said-is i-is = said-is ∙ ap (λ (i : Bool). unless (callTests ss (p .direction) (p .s) (p .u) i) done) (i-is ∙ sym index-is)
+    -- by code's test b of the index
+    module _ {b : Bool} (b-is : b ≡ badPlace (w .count) (p .index) (p .beside)) where
+      pub refused-index : b ≡ true → Made (callOf p) z l (refused 5) l
+      refused-index bad = made-refused (callOf p) z l (ok .good) 5 (ok .shape-is) (says-is true (not (p .good)) (sym b-is ∙ bad) refl)
 
-  pub refused-by : (k : ℕ) → unless tests done ≡ refused k → Made (callOf p) z l (refused k) l
-  refused-by k e = made-refused (callOf p) z l (whole .good) k (whole .shape-is) (refused-early subtable says-core tests k e)
+      -- it is good
+      module _ (placed : b ≡ false) where
+        pub passed : Passed p l w
+        passed =
+            let place = in-place (w .count) (p .index) (p .beside) (sym b-is ∙ placed) in
+            record {
+              inside = record { fits = ok .fits; below = place .0 };
+              near = place .1;
+              scale = in-scale (p .s) (p .u) (number-good ss (p .direction) (badScale (p .s) (p .u)) (ok .none));
+            }
 
-  -- none of refusals 2 to 5
-  module _ (ok : unless tests done ≡ done) where
-    pub passed : Allowed ss (p .direction) (p .s) (p .u) (p .bad-index n)
-    passed = let a = allowed ss (p .direction) (p .s) (p .u) (p .bad-index (length ss)) ok in record { scale = a .scale; place = sym index-is ∙ a .place }
+        pub refused-subtable : {g : Bool} → g ≡ p .good → g ≡ false → Made (callOf p) z l (refused 6) l
+        refused-subtable is bad = made-refused (callOf p) z l (ok .good) 6 (ok .shape-is) (says-is false true (sym b-is ∙ placed) (ap not (sym is ∙ bad)))
 
-    pub refused-subtable : p .bad-subtable ≡ true → Made (callOf p) z l (refused 6) l
-    refused-subtable e = made-refused (callOf p) z l (whole .good) 6 (whole .shape-is) (go-on subtable says-core tests ok ∙ rw e)
-
-    -- nor 6: the core was called with the direction d, said `given` and left the bytes l′
-    pub by-core : {d : Direction} (l′ : List ℕ) (given : Said) → p .bad-subtable ≡ false → d ≡ directionOf (p .direction) → Bytes l → Bytes l′ → length l′ ≡ length l
-        → Effect ss (p .says d ss) (p .leaves d ss) given (slots (shapeWith z n) l′) → Made (callOf p) z l given l′
-    by-core l′ given good is b b′ k effect =
-        let said-is : callOf p .says ss ≡ says-core = go-on subtable says-core tests ok ∙ rw good in
-        made-by (callOf p) z l (whole .good) l′ given (whole .shape-is) b b′ k (rw said-is (rw is at effect))
+        -- the core was called with the direction d, said `given` and left the bytes l′
+        pub by-core : {g : Bool} {d : Direction} (l′ : List ℕ) (given : Said) → g ≡ p .good → g ≡ true → d ≡ directionOf (p .direction) → AllBytes l → AllBytes l′
+            → length l′ ≡ length l → MadeOn (p .core d) (slots w l) given (slots w l′) → Made (callOf p) z l given l′
+        by-core l′ given is good d-is byte byte′ k made =
+            made-by (callOf p) z l (ok .good) l′ given (ok .shape-is) byte byte′ k (rw (says-is false false (sym b-is ∙ placed) (ap not (sym is ∙ good))) (rw d-is at made))

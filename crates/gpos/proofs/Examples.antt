@@ -8,19 +8,19 @@ use lib.ListN.{length}
 use Rattle.ints.specs.BigEndian.{digits, natAt}
 use Rattle.ints.specs.Signed.{intAt, pattern, signed}
 use Rattle.slots.specs.Checks.{some}
-use Rattle.slots.specs.Clusters.{isNumberedFrom}
+use Rattle.slots.specs.Numbered.{isNumberedFrom}
 use Rattle.slots.specs.Fields.{withByte, withCluster}
 use Rattle.slots.specs.Line.{bytes, slots, slotsN}
 use Rattle.slots.specs.Slot.{noSlot, plainBytes, Slot, slotOf}
 use Rattle.slots.specs.declared.fields.ByteField.the-variants.{Flags}
 use Rattle.answers.specs.Outcome.{answerTo}
 use Rattle.answers.specs.Said.{Said, done, refused}
-use Rattle.answers.specs.declared.Neighbour.the-variants.{At, Missing}
-use Rattle.gpos.specs.Finish.{finish}
-use Rattle.gpos.specs.Moves.{moveSaid}
+use Rattle.answers.specs.declared.Neighbour.the-variants.{Named, Missing}
+use Rattle.gpos.specs.Finishing.{finish}
+use Rattle.gpos.specs.Moving.{moveSaid}
 use Rattle.gpos.specs.Neighbours.{badPrevious, badSecond}
-use Rattle.gpos.specs.Start.{start}
-use Rattle.gpos.specs.Tests.{applying, offScale}
+use Rattle.gpos.specs.Starting.{start}
+use Rattle.gpos.specs.Checks.{applying, badScale}
 
 -- a line of one slot that is well, and one with a spare flag bit, of slots of z bytes
 abbrev well : ℕ → List ℕ
@@ -31,7 +31,7 @@ spare z = bytes z (withByte Flags 8 noSlot ∷ [])
 
 -- what an applying call with a bad subtable says of a line, a direction, s and an index, where u is 1000
 abbrev bad : ℕ → List ℕ → ℕ → ℕ → ℕ → Said
-bad z l direction s i = answerTo (applying direction s 1000 (λ ss. leb (length ss) i) true (λ d ss. done) (λ d ss. ss)) z l
+bad z l direction s i = answerTo (applying direction s 1000 (λ ss. leb (length ss) i) true (λ d. record { says = λ ss. done; leaves = λ ss. ss })) z l
 
 -- what finishing says of a line, a direction and a limit
 abbrev finishing : ℕ → List ℕ → ℕ → ℕ → Said
@@ -51,13 +51,13 @@ ordered z =
 
 pub record Worked : Type 0 where
   -- s from 1 to 32,768, u from 16 to 16,384
-  pub scales-in : (offScale 1 16 ≡ false) × (offScale 32768 16384 ≡ false)
-  pub scales-out : (offScale 0 16 ≡ true) × (offScale 32769 16 ≡ true) × (offScale 1 15 ≡ true) × (offScale 1 16385 ≡ true)
+  pub scales-in : (badScale 1 16 ≡ false) × (badScale 32768 16384 ≡ false)
+  pub scales-out : (badScale 0 16 ≡ true) × (badScale 32769 16 ≡ true) × (badScale 1 15 ≡ true) × (badScale 1 16385 ≡ true)
   -- three slots, index 1: second is 2 alone; a bound may be the slot count, and as low as 0
-  pub seconds : map (badSecond 3 1) (At 0 ∷ At 1 ∷ At 2 ∷ At 3 ∷ Missing 0 ∷ Missing 3 ∷ Missing 4 ∷ []) ≡ (true ∷ true ∷ false ∷ true ∷ false ∷ false ∷ true ∷ [])
+  pub seconds : map (badSecond 3 1) (Named 0 ∷ Named 1 ∷ Named 2 ∷ Named 3 ∷ Missing 0 ∷ Missing 3 ∷ Missing 4 ∷ []) ≡ (true ∷ true ∷ false ∷ true ∷ false ∷ false ∷ true ∷ [])
   -- previous is 0 alone; nothing is before index 0; an index at the count is bad with any neighbour
-  pub previous : map (badPrevious 3 1) (At 0 ∷ At 1 ∷ At 3 ∷ Missing 0 ∷ Missing 3 ∷ Missing 4 ∷ []) ≡ (false ∷ true ∷ true ∷ false ∷ false ∷ true ∷ [])
-  pub at-count : (badPrevious 3 0 (At 0) ≡ true) × (badPrevious 3 3 (At 0) ≡ true) × (badSecond 3 3 (Missing 3) ≡ true)
+  pub previous : map (badPrevious 3 1) (Named 0 ∷ Named 1 ∷ Named 3 ∷ Missing 0 ∷ Missing 3 ∷ Missing 4 ∷ []) ≡ (false ∷ true ∷ true ∷ false ∷ false ∷ true ∷ [])
+  pub at-count : (badPrevious 3 0 (Named 0) ≡ true) × (badPrevious 3 3 (Named 0) ≡ true) × (badSecond 3 3 (Missing 3) ≡ true)
   -- the order of refusals, for both sizes
   pub order : (ordered 24 ≡ map refused (1 ∷ 2 ∷ 3 ∷ 4 ∷ 5 ∷ 6 ∷ [])) × (ordered 28 ≡ map refused (1 ∷ 2 ∷ 3 ∷ 4 ∷ 5 ∷ 6 ∷ []))
   -- an empty line: an applying call refuses it with 5 unless a lower number applies; it is started and finished

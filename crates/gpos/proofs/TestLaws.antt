@@ -5,16 +5,16 @@ use mathlib.Core.List.{List, [], _∷_}
 use Prim.Native.Nat.{ℕ}
 use borrow.Author.Tests.{ltb-false}
 use lib.Dec.{ltb}
-use Rattle.ints.specs.Scale.{InScale}
+use Rattle.ints.specs.code.Scale.{InScale}
 use Rattle.ints.proofs.TestLaws.{or-false}
-use Rattle.slots.specs.Checks.{unranged}
+use Rattle.slots.specs.Checks.{badSlots}
 use Rattle.slots.specs.Slot.{Slot}
 use Rattle.answers.specs.Said.{done, unless}
 use Rattle.answers.proofs.TestLaws.{clear-first}
-use Rattle.gpos.specs.Tests.{offScale, slotTests}
+use Rattle.gpos.specs.Checks.{badScale, slotTests}
 
 -- the scale is in its range
-pub in-scale : (s u : ℕ) → offScale s u ≡ false → InScale s u
+pub in-scale : (s u : ℕ) → badScale s u ≡ false → InScale s u
 in-scale s u e =
     let a = or-false (ltb s 1) (ltb 32768 s || (ltb u 16 || ltb 16384 u)) e in
     let b = or-false (ltb 32768 s) (ltb u 16 || ltb 16384 u) (a .1) in
@@ -24,5 +24,5 @@ in-scale s u e =
 -- the number is in its range
 pub number-good : (ss : List Slot) (direction : ℕ) (badNumber : Bool) → unless (slotTests ss direction badNumber) done ≡ done → badNumber ≡ false
 number-good ss direction badNumber e =
-    let two = clear-first (ltb 3 direction) 2 ((badNumber, 3) ∷ (unranged ss, 4) ∷ []) e in
-    clear-first badNumber 3 ((unranged ss, 4) ∷ []) (two .1) .0
+    let two = clear-first (ltb 3 direction) 2 ((badNumber, 3) ∷ (badSlots ss, 4) ∷ []) e in
+    clear-first badNumber 3 ((badSlots ss, 4) ∷ []) (two .1) .0

@@ -3,52 +3,52 @@ use mathlib.Core.Path.{_≡_}
 use mathlib.Core.Bool.{Bool}
 use mathlib.Core.List.{List}
 use Prim.Native.Nat.{ℕ}
-use Rattle.marks.specs.declared.subtable.Kind.{Kind}
+use Rattle.marks.specs.declared.mark_pos.Target.{Target}
 use Rattle.answers.specs.declared.Neighbour.{Neighbour}
 use Rattle.answers.specs.Said.{said, saidDone, saidMoved}
 use Rattle.answers.proofs.OutcomeLaws.{one-outcome}
 use Rattle.answers.proofs.SaidLaws.{said-same, saidDone-same, saidMoved-same}
-use Rattle.gpos.specs.Start.{Started}
-use Rattle.gpos.specs.Finish.{Finished}
-use Rattle.gpos.specs.Single.{Singled}
-use Rattle.gpos.specs.Pair.{Paired}
-use Rattle.gpos.specs.Cursive.{Cursived}
-use Rattle.gpos.specs.Marks.{Marked}
-use Rattle.gpos.specs.Moves.{Clustered, Unclustered}
+use Rattle.gpos.specs.Starting.{StartCall}
+use Rattle.gpos.specs.Finishing.{FinishCall}
+use Rattle.gpos.specs.SinglePos.{SingleCall}
+use Rattle.gpos.specs.PairPos.{PairCall}
+use Rattle.gpos.specs.CursivePos.{CursiveCall}
+use Rattle.gpos.specs.MarkPos.{MarkCall}
+use Rattle.gpos.specs.Moving.{ToClustersCall, FromClustersCall}
 
 -- at most one answer and one line meet a contract
 abbrev pub Unique : {R : Type 0} → (R → List ℕ → Type 0) → Type 0
 Unique {R} Meets = (r₁ r₂ : R) (l₁ l₂ : List ℕ) → Meets r₁ l₁ → Meets r₂ l₂ → (r₁ ≡ r₂) × (l₁ ≡ l₂)
 
 -- gpos::start
-pub start-unique : (z : ℕ) (l : List ℕ) → Unique (Started z l)
+pub start-unique : (z : ℕ) (l : List ℕ) → Unique (StartCall z l)
 start-unique z l r₁ r₂ l₁ l₂ p q = one-outcome saidDone saidDone-same z l _ _ l₁ l₂ r₁ r₂ p q
 
 -- gpos::finish
-pub finish-unique : (z : ℕ) (l : List ℕ) (direction limit : ℕ) (flag : Bool) → Unique (Finished z l direction limit flag)
+pub finish-unique : (z : ℕ) (l : List ℕ) (direction limit : ℕ) (flag : Bool) → Unique (FinishCall z l direction limit flag)
 finish-unique z l direction limit flag r₁ r₂ l₁ l₂ p q = one-outcome saidDone saidDone-same z l _ _ l₁ l₂ r₁ r₂ p q
 
 module _ (z : ℕ) (l t : List ℕ) (direction s u i : ℕ) where
   -- gpos::single
-  pub single-unique : Unique (Singled z l t direction s u i)
+  pub single-unique : Unique (SingleCall z l t direction s u i)
   single-unique r₁ r₂ l₁ l₂ p q = one-outcome said said-same z l _ _ l₁ l₂ r₁ r₂ p q
 
   -- gpos::pair
-  pub pair-unique : (second : Neighbour) → Unique (Paired z l t direction s u i second)
+  pub pair-unique : (second : Neighbour) → Unique (PairCall z l t direction s u i second)
   pair-unique second r₁ r₂ l₁ l₂ p q = one-outcome said said-same z l _ _ l₁ l₂ r₁ r₂ p q
 
   -- gpos::cursive
-  pub cursive-unique : (previous : Neighbour) (flag : ℕ) → Unique (Cursived z l t direction s u i previous flag)
+  pub cursive-unique : (previous : Neighbour) (flag : ℕ) → Unique (CursiveCall z l t direction s u i previous flag)
   cursive-unique previous flag r₁ r₂ l₁ l₂ p q = one-outcome said said-same z l _ _ l₁ l₂ r₁ r₂ p q
 
-  -- gpos::mark_base and gpos::mark_ligature, by the kind
-  pub mark-unique : (kind : Kind) → Unique (Marked kind z l t direction s u i)
-  mark-unique kind r₁ r₂ l₁ l₂ p q = one-outcome said said-same z l _ _ l₁ l₂ r₁ r₂ p q
+  -- gpos::mark_base and gpos::mark_ligature, by the target
+  pub mark-unique : (target : Target) → Unique (MarkCall target z l t direction s u i)
+  mark-unique target r₁ r₂ l₁ l₂ p q = one-outcome said said-same z l _ _ l₁ l₂ r₁ r₂ p q
 
 -- gpos::to_clusters and gpos::from_clusters
 module _ (l t : List ℕ) where
-  pub to-clusters-unique : Unique (Clustered l t)
+  pub to-clusters-unique : Unique (ToClustersCall l t)
   to-clusters-unique r₁ r₂ l₁ l₂ p q = one-outcome saidMoved saidMoved-same _ t _ _ l₁ l₂ r₁ r₂ p q
 
-  pub from-clusters-unique : Unique (Unclustered l t)
+  pub from-clusters-unique : Unique (FromClustersCall l t)
   from-clusters-unique r₁ r₂ l₁ l₂ p q = one-outcome saidMoved saidMoved-same _ t _ _ l₁ l₂ r₁ r₂ p q

@@ -3,21 +3,22 @@ use mathlib.Core.Bool.{Bool, _||_}
 use Prim.Native.Nat.{ℕ}
 use lib.Dec.{leb, ltb}
 use Rattle.answers.specs.declared.Neighbour.{Neighbour}
-use Rattle.answers.specs.declared.Neighbour.the-variants.{At, Missing}
+use Rattle.answers.specs.declared.Neighbour.the-variants.{Named, Missing}
 
 -- a second glyph not after the index or not in the line, or a "missing" bound above the slot count
 abbrev pub badAfter : ℕ → ℕ → Neighbour → Bool
-badAfter n idx (At j) = leb j idx || leb n j
+badAfter n idx (Named j) = leb j idx || leb n j
 badAfter n idx (Missing e) = ltb n e
 
 -- a previous glyph not before the index, or a "missing" bound above the slot count
 abbrev pub badBefore : ℕ → ℕ → Neighbour → Bool
-badBefore n idx (At i) = leb idx i
+badBefore n idx (Named i) = leb idx i
 badBefore n idx (Missing f) = ltb n f
 
--- the index not in the line, or its neighbour bad
+-- the index not in the line, or the second glyph bad
 abbrev pub badSecond : ℕ → ℕ → Neighbour → Bool
 badSecond n idx b = leb n idx || badAfter n idx b
 
+-- the index not in the line, or the previous glyph bad
 abbrev pub badPrevious : ℕ → ℕ → Neighbour → Bool
 badPrevious n idx b = leb n idx || badBefore n idx b

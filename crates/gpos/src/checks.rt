@@ -1,17 +1,21 @@
-// The checks that calls share, each made once, in the order of document 01's table. Refusal 1 comes before them, where the line is cut into slots.
-use answers::Done;
+// The checks that calls share, each made once, in the order of document 01's table: refusals 1 to 4.
 use answers::Refusal;
+use slots::shape::Cut;
 use slots::shape::Shape;
-ghost use mathlib.Core.Bool.{true};
+use slots::shape::cut_of;
 ghost use mathlib.Core.Path.{_≡_};
-ghost use Rattle.slots.specs.Line.{Fits, slots};
-ghost use Rattle.slots.specs.Slot.{known};
-ghost use Rattle.answers.specs.Said.{done, saidDone, unless};
-ghost use Rattle.gpos.specs.Tests.{callTests, offScale, slotTests};
+ghost use Rattle.gpos.specs.code.Checked.{LineChecked, SlotsChecked};
+ghost use Rattle.gpos.specs.Checks.{badScale};
+
+// What the checks found: the shape of the line's slots, or why the call is refused.
+pub enum Checked {
+    Slots(Shape),
+    Refused(Refusal),
+}
 
 // Is s or u out of its range?
-fn is_off_scale(s: u32, u: u32) -> bool
-    ensures { λ r. ⌜ r ≡ offScale s u ⌝ }
+fn is_bad_scale(s: u32, u: u32) -> bool
+    ensures { λ r. ⌜ r ≡ badScale s u ⌝ }
 {
     if s < 1 {
         return true;
@@ -25,43 +29,40 @@ fn is_off_scale(s: u32, u: u32) -> bool
     16384 < u
 }
 
-// Refusals 2 to 4: `unfit` says that another number is out of its range.
-pub fn check_slots(line: &[u8], shape: Shape, direction: u32, unfit: bool) -> Done
-    requires { ⌜ Fits shape (now line) × (known (shape .size) ≡ true) ⌝ }
-    ensures { λ r. ⌜ saidDone r ≡ unless (slotTests (slots shape (now (line .entry))) direction unfit) done ⌝ }
+// Refusals 1 to 4: `unfit` says that another number is out of its range.
+pub fn check_slots(line: &[u8], size: usize, direction: u32, unfit: bool) -> Checked
+    ensures { λ r. ⌜ SlotsChecked size (now (line .entry)) direction unfit r ⌝ }
 {
+    let cut = cut_of(line, size);
+    let Cut::Slots(n) = cut else {
+        return Checked::Refused(Refusal::Line);
+    };
     if 3 < direction {
-        return Done::Refused(Refusal::Direction);
+        return Checked::Refused(Refusal::Direction);
     }
     if unfit {
-        return Done::Refused(Refusal::Number);
+        return Checked::Refused(Refusal::Number);
     }
-    if slots::checks::is_unranged(line, shape) {
-        return Done::Refused(Refusal::Slot);
+    let shape = Shape {
+        size: size,
+        count: n,
+    };
+    if slots::checks::has_bad_slot(line, shape) {
+        return Checked::Refused(Refusal::Slot);
     }
-    Done::Done
+    Checked::Slots(shape)
 }
 
-// Refusals 2 to 5 of an applying call: `misplaced` says that the index or the neighbour is bad.
-pub fn check_call(
-    line: &[u8],
-    shape: Shape,
-    direction: u32,
-    s: u32,
-    u: u32,
-    misplaced: bool,
-) -> Done
-    requires { ⌜ Fits shape (now line) × (known (shape .size) ≡ true) ⌝ }
-    ensures { λ r. ⌜ saidDone r ≡ unless (callTests (slots shape (now (line .entry))) direction s u misplaced) done ⌝ }
+// Refusals 1 and 4, of a call that takes neither a direction nor another number.
+pub fn check_line(line: &[u8], size: usize) -> Checked
+    ensures { λ r. ⌜ LineChecked size (now (line .entry)) r ⌝ }
 {
-    let checked = check_slots(line, shape, direction, is_off_scale(s, u));
-    match checked {
-        Done::Refused(r) => Done::Refused(r),
-        Done::Done => {
-            if misplaced {
-                return Done::Refused(Refusal::Index);
-            }
-            Done::Done
-        }
-    }
+    check_slots(line, size, 0, false)
+}
+
+// Refusals 1 to 4 of an applying call. Refusal 5 is tested apart, or this would be too long to be inlined.
+pub fn check_call(line: &[u8], size: usize, direction: u32, s: u32, u: u32) -> Checked
+    ensures { λ r. ⌜ SlotsChecked size (now (line .entry)) direction (badScale s u) r ⌝ }
+{
+    check_slots(line, size, direction, is_bad_scale(s, u))
 }

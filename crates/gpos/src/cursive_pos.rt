@@ -1,18 +1,16 @@
 // Cursive attachment.
+use crate::checks::Checked;
 use crate::checks::check_call;
-use crate::neighbours::is_bad_previous;
+use crate::neighbours::Beside;
+use crate::neighbours::is_misplaced;
 use answers::Answer;
-use answers::Done;
 use answers::Neighbour;
 use answers::Refusal;
 use slots::axis::direction_of;
-use slots::shape::Cut;
-use slots::shape::Shape;
-use slots::shape::cut_of;
-ghost use Rattle.gpos.specs.Cursive.{Cursived};
+ghost use Rattle.gpos.specs.CursivePos.{CursiveCall};
 
-// Joins slot `index`, by its entry anchor, to the previous slot that the caller names, by its exit anchor, in a CursivePos subtable. Of the lookup's flag only
-// RIGHT_TO_LEFT, 0x0001, is looked at. Refusals 1 to 6.
+// Joins slot `index`, by its entry anchor, to the previous slot that the caller names, by its exit anchor, in a
+// CursivePos subtable. Of the lookup's flag only RIGHT_TO_LEFT, 0x0001, is looked at. Refusals 1 to 6.
 pub fn cursive(
     line: &mut [u8],
     size: usize,
@@ -24,35 +22,30 @@ pub fn cursive(
     previous: Neighbour,
     flag: u32,
 ) -> Answer
-    ensures { λ r. ⌜ Cursived size (now (line .entry)) (now (subtable .entry)) direction s u index previous flag r (now (line .exit)) ⌝ }
+    ensures { λ r. ⌜ CursiveCall size (now (line .entry)) (now (subtable .entry)) direction s u index previous flag r
+        (now (line .exit)) ⌝ }
 {
-    let cut = cut_of(line, size);
-    let Cut::Slots(n) = cut else {
-        return Answer::Refused(Refusal::Line);
-    };
-    let shape = Shape {
-        size: size,
-        count: n,
-    };
-    let misplaced = is_bad_previous(n, index, previous);
-    let checked = check_call(line, shape, direction, s, u, misplaced);
+    let checked = check_call(line, size, direction, s, u);
     match checked {
-        Done::Refused(r) => Answer::Refused(r),
-        Done::Done => {
-            if !cursive::subtable::is_good(subtable) {
-                return Answer::Refused(Refusal::Subtable);
+        Checked::Refused(r) => return Answer::Refused(r),
+        Checked::Slots(shape) => {
+            if is_misplaced(shape.count, index, Beside::Previous(previous)) {
+                return Answer::Refused(Refusal::Index);
             }
-            cursive::attachment::attach(
-                line,
-                shape,
-                subtable,
-                direction_of(direction),
-                s,
-                u,
-                index,
-                previous,
-                flag,
-            )
+            if cursive::cursive_pos::is_good(subtable) {
+                return cursive::attachment::apply(
+                    line,
+                    shape,
+                    subtable,
+                    direction_of(direction),
+                    s,
+                    u,
+                    index,
+                    previous,
+                    flag,
+                );
+            }
+            return Answer::Refused(Refusal::Subtable);
         }
     }
 }

@@ -1,13 +1,12 @@
 // Single adjustment.
+use crate::checks::Checked;
 use crate::checks::check_call;
+use crate::neighbours::Beside;
+use crate::neighbours::is_misplaced;
 use answers::Answer;
-use answers::Done;
 use answers::Refusal;
 use slots::axis::direction_of;
-use slots::shape::Cut;
-use slots::shape::Shape;
-use slots::shape::cut_of;
-ghost use Rattle.gpos.specs.Single.{Singled};
+ghost use Rattle.gpos.specs.SinglePos.{SingleCall};
 
 // Adjusts slot `index` by its glyph's value record in a SinglePos subtable. Refusals 1 to 6.
 pub fn single(
@@ -19,25 +18,28 @@ pub fn single(
     u: u32,
     index: usize,
 ) -> Answer
-    ensures { λ r. ⌜ Singled size (now (line .entry)) (now (subtable .entry)) direction s u index r (now (line .exit)) ⌝ }
+    ensures { λ r. ⌜ SingleCall size (now (line .entry)) (now (subtable .entry)) direction s u index r
+        (now (line .exit)) ⌝ }
 {
-    let cut = cut_of(line, size);
-    let Cut::Slots(n) = cut else {
-        return Answer::Refused(Refusal::Line);
-    };
-    let shape = Shape {
-        size: size,
-        count: n,
-    };
-    let misplaced = n <= index;
-    let checked = check_call(line, shape, direction, s, u, misplaced);
+    let checked = check_call(line, size, direction, s, u);
     match checked {
-        Done::Refused(r) => Answer::Refused(r),
-        Done::Done => {
-            if !single::subtable::is_good(subtable) {
-                return Answer::Refused(Refusal::Subtable);
+        Checked::Refused(r) => return Answer::Refused(r),
+        Checked::Slots(shape) => {
+            if is_misplaced(shape.count, index, Beside::Nothing) {
+                return Answer::Refused(Refusal::Index);
             }
-            single::adjust::adjust(line, shape, subtable, direction_of(direction), s, u, index)
+            if single::single_pos::is_good(subtable) {
+                return single::adjustment::apply(
+                    line,
+                    shape,
+                    subtable,
+                    direction_of(direction),
+                    s,
+                    u,
+                    index,
+                );
+            }
+            return Answer::Refused(Refusal::Subtable);
         }
     }
 }

@@ -6,10 +6,10 @@ use Prim.Native.Nat.{ℕ}
 use lib.Dec.{eqb}
 use Rattle.ints.specs.Choice.{if_then_else_}
 use Rattle.answers.specs.declared.Neighbour.{Neighbour}
-use Rattle.answers.specs.declared.Neighbour.the-variants.{At, Missing}
+use Rattle.answers.specs.declared.Neighbour.the-variants.{Named, Missing}
 use Rattle.answers.specs.Said.{refusalNumber}
-use Rattle.answers.specs.declared.Kind.{Kind}
-use Rattle.answers.specs.declared.Kind.the-variants.{Break, Concat}
+use Rattle.answers.specs.declared.HazardKind.{HazardKind}
+use Rattle.answers.specs.declared.HazardKind.the-variants.{UnsafeToBreak, UnsafeToConcat}
 use Rattle.answers.specs.declared.Hazard.{Hazard}
 use Rattle.answers.specs.declared.Hazards.{Hazards}
 use Rattle.answers.specs.declared.Hazards.the-variants.{None, One, Two}
@@ -21,6 +21,7 @@ use Rattle.answers.specs.declared.Done.{Done}
 use Rattle.answers.specs.declared.Done.the-variants.{Done as DoneNow, Refused as NotDone}
 use Rattle.gpos_c.specs.declared.layout.CHazard.{CHazard}
 use Rattle.gpos_c.specs.declared.layout.CAnswer.{CAnswer}
+use Rattle.gpos_c.specs.declared.layout.List.{List}
 
 -- a flag from C: any number but 0 sets it
 abbrev pub set : ℕ → Bool
@@ -38,49 +39,46 @@ movedNumber (NotMoved r) = refusalNumber r
 movedNumber Unfit = 10
 
 -- unsafe to break, unsafe to concatenate
-abbrev pub kindNumber : Kind → ℕ
-kindNumber Break = 1
-kindNumber Concat = 2
+abbrev pub hazardKindNumber : HazardKind → ℕ
+hazardKindNumber UnsafeToBreak = 1
+hazardKindNumber UnsafeToConcat = 2
 
+-- a hazard for C
 abbrev pub hazardOf : Hazard → CHazard
-hazardOf h = record { kind = kindNumber (h .kind); start = h .start; end = h .end }
+hazardOf h = record { kind = hazardKindNumber (h .kind); start = h .start; end = h .end }
 
 -- zeros where there is no hazard
 abbrev pub noHazard : CHazard
 noHazard = record { kind = 0; start = 0; end = 0 }
 
 -- hazards keep their order
-abbrev pub firstOf : Hazards → CHazard
-firstOf None = noHazard
-firstOf (One h) = hazardOf h
-firstOf (Two h g) = hazardOf h
+abbrev pub listOf : Hazards → List
+listOf None = record { count = 0; hazard = noHazard ∷ noHazard ∷ [] }
+listOf (One h) = record { count = 1; hazard = hazardOf h ∷ noHazard ∷ [] }
+listOf (Two h g) = record { count = 2; hazard = hazardOf h ∷ hazardOf g ∷ [] }
 
-abbrev pub secondOf : Hazards → CHazard
-secondOf None = noHazard
-secondOf (One h) = noHazard
-secondOf (Two h g) = hazardOf g
-
-abbrev pub countOf : Hazards → ℕ
-countOf None = 0
-countOf (One h) = 1
-countOf (Two h g) = 2
-
+-- a flag for C
 abbrev pub flag : Bool → ℕ
 flag true = 1
 flag false = 0
 
+-- an answer by its status, the number of its refusal, whether it attached, the next place and its hazards
+abbrev pub laid : ℕ → ℕ → ℕ → ℕ → Hazards → CAnswer
+laid s r a n hs =
+    record { status = s; refusal = r; attached = a; hazards = listOf hs .count; next = n; hazard = listOf hs .hazard }
+
 -- an applying call: status 1 applied, 2 declined, 3 refused; what a case doesn't have is 0
-abbrev pub flat : Answer → CAnswer
-flat (Applied n hs a) = record { status = 1; refusal = 0; attached = flag a; hazards = countOf hs; next = n; hazard = firstOf hs ∷ secondOf hs ∷ [] }
-flat (Declined hs) = record { status = 2; refusal = 0; attached = 0; hazards = countOf hs; next = 0; hazard = firstOf hs ∷ secondOf hs ∷ [] }
-flat (Refused r) = record { status = 3; refusal = refusalNumber r; attached = 0; hazards = 0; next = 0; hazard = noHazard ∷ noHazard ∷ [] }
+abbrev pub toC : Answer → CAnswer
+toC (Applied n hs a) = laid 1 0 (flag a) n hs
+toC (Declined hs) = laid 2 0 0 0 hs
+toC (Refused r) = laid 3 (refusalNumber r) 0 0 None
 
 -- a neighbour from C: where `missing` is 0 the slot n, else none, with the bound n
 abbrev pub neighbour : ℕ → ℕ → Neighbour
-neighbour missing n = if eqb missing 0 then At n else Missing n
+neighbour missing n = if eqb missing 0 then Named n else Missing n
 
 -- an export gave r: it is the layout of an answer that the call of gpos may give
-pub record Laid {A : Type 0} {C : Type 0} (layout : A → C) (May : A → Type 0) (r : C) : Type 0 where
+pub record IsLayoutOf {A : Type 0} {C : Type 0} (layout : A → C) (May : A → Type 0) (r : C) : Type 0 where
   pub answer : A
   pub may : May answer
   pub numbers : r ≡ layout answer

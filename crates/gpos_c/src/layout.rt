@@ -2,15 +2,14 @@
 use answers::Answer;
 use answers::Done;
 use answers::Hazard;
+use answers::HazardKind;
 use answers::Hazards;
-use answers::Kind;
 use answers::Moved;
 use answers::Neighbour;
-use answers::Refusal;
 use answers::refusal_number;
 ghost use mathlib.Core.Path.{_≡_};
-ghost use Rattle.answers.specs.declared.Answer.the-variants.{Applied, Declined, Refused};
-ghost use Rattle.gpos_c.specs.Layout.{kindNumber, hazardOf, noHazard, firstOf, secondOf, countOf, flag, flat, doneNumber, movedNumber, neighbour, set};
+ghost use Rattle.gpos_c.specs.Layout.{doneNumber, flag, toC, hazardOf, hazardKindNumber, listOf, movedNumber};
+ghost use Rattle.gpos_c.specs.Layout.{neighbour, set, laid as Layout·laid};
 
 #[repr(C)]
 pub struct CHazard {
@@ -29,6 +28,12 @@ pub struct CAnswer {
     pub hazard: [CHazard; 2],
 }
 
+// An answer's hazards as C sees them.
+struct List {
+    count: u32,
+    hazard: [CHazard; 2],
+}
+
 // A flag from C: any number but 0 sets it.
 pub fn is_set(n: u32) -> bool
     ensures { λ r. ⌜ r ≡ set n ⌝ }
@@ -44,7 +49,7 @@ pub fn neighbour_of(missing: u32, n: usize) -> Neighbour
     ensures { λ r. ⌜ r ≡ neighbour missing n ⌝ }
 {
     if missing == 0 {
-        return Neighbour::At(n);
+        return Neighbour::Named(n);
     }
     Neighbour::Missing(n)
 }
@@ -70,12 +75,12 @@ pub fn moved_number(m: Moved) -> u32
     }
 }
 
-fn kind_number(k: Kind) -> u32
-    ensures { λ r. ⌜ r ≡ kindNumber k ⌝ }
+fn hazard_kind_number(k: HazardKind) -> u32
+    ensures { λ r. ⌜ r ≡ hazardKindNumber k ⌝ }
 {
     match k {
-        Kind::Break => 1,
-        Kind::Concat => 2,
+        HazardKind::UnsafeToBreak => 1,
+        HazardKind::UnsafeToConcat => 2,
     }
 }
 
@@ -84,49 +89,36 @@ fn hazard_of(h: Hazard) -> CHazard
 {
     let k = h.kind;
     CHazard {
-        kind: kind_number(k),
+        kind: hazard_kind_number(k),
         start: h.start,
         end: h.end,
     }
 }
 
-fn no_hazard() -> CHazard
-    ensures { λ r. ⌜ r ≡ noHazard ⌝ }
-{
-    CHazard {
-        kind: 0,
-        start: 0,
-        end: 0,
-    }
-}
+// Zeros where there is no hazard.
+const NO_HAZARD: CHazard = CHazard {
+    kind: 0,
+    start: 0,
+    end: 0,
+};
 
-fn first_of(hs: Hazards) -> CHazard
-    ensures { λ r. ⌜ r ≡ firstOf hs ⌝ }
+// The hazards, in their order, and how many there are.
+fn list_of(hs: Hazards) -> List
+    ensures { λ r. ⌜ r ≡ listOf hs ⌝ }
 {
     match hs {
-        Hazards::None => no_hazard(),
-        Hazards::One(h) => hazard_of(h),
-        Hazards::Two(h, _) => hazard_of(h),
-    }
-}
-
-fn second_of(hs: Hazards) -> CHazard
-    ensures { λ r. ⌜ r ≡ secondOf hs ⌝ }
-{
-    match hs {
-        Hazards::None => no_hazard(),
-        Hazards::One(_) => no_hazard(),
-        Hazards::Two(_, g) => hazard_of(g),
-    }
-}
-
-fn count_of(hs: Hazards) -> u32
-    ensures { λ r. ⌜ r ≡ countOf hs ⌝ }
-{
-    match hs {
-        Hazards::None => 0,
-        Hazards::One(_) => 1,
-        Hazards::Two(_, _) => 2,
+        Hazards::None => List {
+            count: 0,
+            hazard: [NO_HAZARD, NO_HAZARD],
+        },
+        Hazards::One(h) => List {
+            count: 1,
+            hazard: [hazard_of(h), NO_HAZARD],
+        },
+        Hazards::Two(h, g) => List {
+            count: 2,
+            hazard: [hazard_of(h), hazard_of(g)],
+        },
     }
 }
 
@@ -136,64 +128,32 @@ fn flag_of(a: bool) -> u32
     if a { 1 } else { 0 }
 }
 
-fn applied(next: usize, hazards: Hazards, attached: bool) -> CAnswer
-    ensures { λ r. ⌜ r ≡ flat (Applied next hazards attached) ⌝ }
+// An answer of these numbers and hazards.
+pub fn laid(status: u32, refusal: u32, attached: u32, next: usize, hazards: Hazards) -> CAnswer
+    ensures { λ r. ⌜ r ≡ Layout·laid status refusal attached next hazards ⌝ }
 {
-    let a = flag_of(attached);
-    let n = count_of(hazards);
-    let f = first_of(hazards);
-    let g = second_of(hazards);
+    let list = list_of(hazards);
+    let two = list.hazard;
     CAnswer {
-        status: 1,
-        refusal: 0,
-        attached: a,
-        hazards: n,
+        status: status,
+        refusal: refusal,
+        attached: attached,
+        hazards: list.count,
         next: next,
-        hazard: [f, g],
+        hazard: two,
     }
 }
 
-fn declined(hazards: Hazards) -> CAnswer
-    ensures { λ r. ⌜ r ≡ flat (Declined hazards) ⌝ }
-{
-    let n = count_of(hazards);
-    let f = first_of(hazards);
-    let g = second_of(hazards);
-    CAnswer {
-        status: 2,
-        refusal: 0,
-        attached: 0,
-        hazards: n,
-        next: 0,
-        hazard: [f, g],
-    }
-}
-
-fn refused(x: Refusal) -> CAnswer
-    ensures { λ r. ⌜ r ≡ flat (Refused x) ⌝ }
-{
-    let n = refusal_number(x);
-    let z = no_hazard();
-    CAnswer {
-        status: 3,
-        refusal: n,
-        attached: 0,
-        hazards: 0,
-        next: 0,
-        hazard: [z, z],
-    }
-}
-
-pub fn flat_of(a: Answer) -> CAnswer
-    ensures { λ r. ⌜ r ≡ flat a ⌝ }
+pub fn to_c(a: Answer) -> CAnswer
+    ensures { λ r. ⌜ r ≡ toC a ⌝ }
 {
     match a {
         Answer::Applied {
             next,
             hazards,
             attached,
-        } => applied(next, hazards, attached),
-        Answer::Declined { hazards } => declined(hazards),
-        Answer::Refused(x) => refused(x),
+        } => laid(1, 0, flag_of(attached), next, hazards),
+        Answer::Declined { hazards } => laid(2, 0, 0, 0, hazards),
+        Answer::Refused(x) => laid(3, refusal_number(x), 0, 0, Hazards::None),
     }
 }

@@ -1,26 +1,28 @@
-// The calls of gpos for C and for other languages, as include/gpos.h declares them. Each calls its namesake and lays the answer out as numbers.
+// The calls of gpos for C and for other languages, as include/gpos.h declares them. Each calls its namesake and lays
+// the answer out as numbers.
 mod layout;
 
 pub use layout::CAnswer;
 pub use layout::CHazard;
 use layout::done_number;
-use layout::flat_of;
 use layout::is_set;
+pub use layout::laid;
 use layout::moved_number;
 use layout::neighbour_of;
-ghost use Rattle.gpos.specs.Cursive.{Cursived};
-ghost use Rattle.gpos.specs.Finish.{Finished};
-ghost use Rattle.gpos.specs.Marks.{Marked};
-ghost use Rattle.gpos.specs.Moves.{Clustered, Unclustered};
-ghost use Rattle.gpos.specs.Pair.{Paired};
-ghost use Rattle.gpos.specs.Single.{Singled};
-ghost use Rattle.gpos.specs.Start.{Started};
-ghost use Rattle.marks.specs.declared.subtable.Kind.the-variants.{Base, Ligature};
-ghost use Rattle.gpos_c.specs.Layout.{doneNumber, flat, Laid, movedNumber, neighbour, set};
+use layout::to_c;
+ghost use Rattle.gpos.specs.CursivePos.{CursiveCall};
+ghost use Rattle.gpos.specs.Finishing.{FinishCall};
+ghost use Rattle.gpos.specs.MarkPos.{MarkCall};
+ghost use Rattle.gpos.specs.Moving.{ToClustersCall, FromClustersCall};
+ghost use Rattle.gpos.specs.PairPos.{PairCall};
+ghost use Rattle.gpos.specs.SinglePos.{SingleCall};
+ghost use Rattle.gpos.specs.Starting.{StartCall};
+ghost use Rattle.marks.specs.declared.mark_pos.Target.the-variants.{Base, Ligature};
+ghost use Rattle.gpos_c.specs.Layout.{doneNumber, toC, IsLayoutOf, movedNumber, neighbour, set};
 
 #[no_mangle]
 pub extern "C" fn gpos_start(line: &mut [u8], size: usize) -> u32
-    ensures { λ r. ⌜ Laid doneNumber (λ d. Started size (now (line .entry)) d (now (line .exit))) r ⌝ }
+    ensures { λ r. ⌜ IsLayoutOf doneNumber (λ d. StartCall size (now (line .entry)) d (now (line .exit))) r ⌝ }
 {
     done_number(gpos::start(line, size))
 }
@@ -33,7 +35,8 @@ pub extern "C" fn gpos_finish(
     limit: u32,
     attachments: u32,
 ) -> u32
-    ensures { λ r. ⌜ Laid doneNumber (λ d. Finished size (now (line .entry)) direction limit (set attachments) d (now (line .exit))) r ⌝ }
+    ensures { λ r. ⌜ IsLayoutOf doneNumber (λ d. FinishCall size (now (line .entry)) direction limit (set attachments) d
+        (now (line .exit))) r ⌝ }
 {
     done_number(gpos::finish(line, size, direction, limit, is_set(attachments)))
 }
@@ -48,9 +51,10 @@ pub extern "C" fn gpos_single(
     u: u32,
     index: usize,
 ) -> CAnswer
-    ensures { λ r. ⌜ Laid flat (λ a. Singled size (now (line .entry)) (now (subtable .entry)) direction s u index a (now (line .exit))) r ⌝ }
+    ensures { λ r. ⌜ IsLayoutOf toC (λ a. SingleCall size (now (line .entry))
+        (now (subtable .entry)) direction s u index a (now (line .exit))) r ⌝ }
 {
-    flat_of(gpos::single(line, size, subtable, direction, s, u, index))
+    to_c(gpos::single(line, size, subtable, direction, s, u, index))
 }
 
 #[no_mangle]
@@ -65,9 +69,10 @@ pub extern "C" fn gpos_pair(
     missing: u32,
     second: usize,
 ) -> CAnswer
-    ensures { λ r. ⌜ Laid flat (λ a. Paired size (now (line .entry)) (now (subtable .entry)) direction s u index (neighbour missing second) a (now (line .exit))) r ⌝ }
+    ensures { λ r. ⌜ IsLayoutOf toC (λ a. PairCall size (now (line .entry)) (now (subtable .entry)) direction s u index
+        (neighbour missing second) a (now (line .exit))) r ⌝ }
 {
-    flat_of(gpos::pair(
+    to_c(gpos::pair(
         line,
         size,
         subtable,
@@ -92,9 +97,10 @@ pub extern "C" fn gpos_cursive(
     previous: usize,
     flag: u32,
 ) -> CAnswer
-    ensures { λ r. ⌜ Laid flat (λ a. Cursived size (now (line .entry)) (now (subtable .entry)) direction s u index (neighbour missing previous) flag a (now (line .exit))) r ⌝ }
+    ensures { λ r. ⌜ IsLayoutOf toC (λ a. CursiveCall size (now (line .entry))
+        (now (subtable .entry)) direction s u index (neighbour missing previous) flag a (now (line .exit))) r ⌝ }
 {
-    flat_of(gpos::cursive(
+    to_c(gpos::cursive(
         line,
         size,
         subtable,
@@ -117,9 +123,10 @@ pub extern "C" fn gpos_mark_base(
     u: u32,
     index: usize,
 ) -> CAnswer
-    ensures { λ r. ⌜ Laid flat (λ a. Marked Base size (now (line .entry)) (now (subtable .entry)) direction s u index a (now (line .exit))) r ⌝ }
+    ensures { λ r. ⌜ IsLayoutOf toC (λ a. MarkCall Base size (now (line .entry))
+        (now (subtable .entry)) direction s u index a (now (line .exit))) r ⌝ }
 {
-    flat_of(gpos::mark_base(line, size, subtable, direction, s, u, index))
+    to_c(gpos::mark_base(line, size, subtable, direction, s, u, index))
 }
 
 #[no_mangle]
@@ -132,21 +139,24 @@ pub extern "C" fn gpos_mark_ligature(
     u: u32,
     index: usize,
 ) -> CAnswer
-    ensures { λ r. ⌜ Laid flat (λ a. Marked Ligature size (now (line .entry)) (now (subtable .entry)) direction s u index a (now (line .exit))) r ⌝ }
+    ensures { λ r. ⌜ IsLayoutOf toC (λ a. MarkCall Ligature size (now (line .entry))
+        (now (subtable .entry)) direction s u index a (now (line .exit))) r ⌝ }
 {
-    flat_of(gpos::mark_ligature(line, size, subtable, direction, s, u, index))
+    to_c(gpos::mark_ligature(line, size, subtable, direction, s, u, index))
 }
 
 #[no_mangle]
 pub extern "C" fn gpos_to_clusters(line: &[u8], target: &mut [u8]) -> u32
-    ensures { λ r. ⌜ Laid movedNumber (λ m. Clustered (now (line .entry)) (now (target .entry)) m (now (target .exit))) r ⌝ }
+    ensures { λ r. ⌜ IsLayoutOf movedNumber (λ m. ToClustersCall (now (line .entry)) (now (target .entry)) m
+        (now (target .exit))) r ⌝ }
 {
     moved_number(gpos::to_clusters(line, target))
 }
 
 #[no_mangle]
 pub extern "C" fn gpos_from_clusters(line: &[u8], target: &mut [u8]) -> u32
-    ensures { λ r. ⌜ Laid movedNumber (λ m. Unclustered (now (line .entry)) (now (target .entry)) m (now (target .exit))) r ⌝ }
+    ensures { λ r. ⌜ IsLayoutOf movedNumber (λ m. FromClustersCall (now (line .entry)) (now (target .entry)) m
+        (now (target .exit))) r ⌝ }
 {
     moved_number(gpos::from_clusters(line, target))
 }

@@ -7,7 +7,7 @@ use native.Mathlib.Omega.{arith}
 use native.Mathlib.Numerals.{add-one}
 use lib.ListN.{length, getD, set, take, drop, length-append, length-drop, take-append-drop}
 use lib.Seq.{drop-drop, getD-at, getD-drop, getD-set-other, getD-set-same, length-take-le, sets, sets-eq, take-suc}
-use Rattle.ints.specs.BigEndian.{Bytes, digits, natAt, withNat}
+use Rattle.ints.specs.BigEndian.{AllBytes, digits, natAt, withNat}
 
 -- ---- the bytes of a number
 pub length-digits : (w n : ℕ) → length (digits w n) ≡ w
@@ -32,7 +32,7 @@ natAt-digits (suc w) n h t =
     rw (append-assoc (digits w (n / 256)) (n % 256 ∷ []) t, x, y) (omega arith)
 
 -- bytes give a number that fits
-pub natAt-fits : (w : ℕ) (l : List ℕ) (at : ℕ) → Bytes l → natAt w l at < 256 ^ w
+pub natAt-fits : (w : ℕ) (l : List ℕ) (at : ℕ) → AllBytes l → natAt w l at < 256 ^ w
 unfolding natAt
 natAt-fits zero l at h = omega arith
 natAt-fits (suc w) l at h =
@@ -41,7 +41,7 @@ natAt-fits (suc w) l at h =
     rw pow-suc (omega arith)
 
 -- the bytes of a number that was read are those bytes
-pub digits-natAt : (w : ℕ) (l : List ℕ) (at : ℕ) → Bytes l → at + w ≤ length l → digits w (natAt w l at) ≡ take w (drop at l)
+pub digits-natAt : (w : ℕ) (l : List ℕ) (at : ℕ) → AllBytes l → at + w ≤ length l → digits w (natAt w l at) ≡ take w (drop at l)
 unfolding digits natAt
 digits-natAt zero l at h f = refl
 digits-natAt (suc w) l at h f =
@@ -52,13 +52,13 @@ digits-natAt (suc w) l at h f =
     rw (x, y, digits-natAt w l at h (omega arith), take-suc (drop at l) w 0 n, getD-drop at l w 0)
 
 -- ---- a part of bytes is bytes
-pub bytes-take : (n : ℕ) (l : List ℕ) → Bytes l → Bytes (take n l)
+pub bytes-take : (n : ℕ) (l : List ℕ) → AllBytes l → AllBytes (take n l)
 bytes-take zero l h k = omega arith
 bytes-take (suc n) [] h k = omega arith
 bytes-take (suc n) (x ∷ l) h zero = h 0
 bytes-take (suc n) (x ∷ l) h (suc k) = bytes-take n l (λ j. h (suc j)) k
 
-pub bytes-drop : (n : ℕ) (l : List ℕ) → Bytes l → Bytes (drop n l)
+pub bytes-drop : (n : ℕ) (l : List ℕ) → AllBytes l → AllBytes (drop n l)
 bytes-drop n l h k = rw (getD-drop n l k 0) (h (n + k))
 
 -- ---- writing
@@ -83,7 +83,7 @@ natAt-withNat w l at n f h =
     ∙ natAt-digits w n h []
 
 -- a write of what was read changes nothing
-pub withNat-natAt : (w : ℕ) (l : List ℕ) (at : ℕ) → Bytes l → at + w ≤ length l → withNat w l at (natAt w l at) ≡ l
+pub withNat-natAt : (w : ℕ) (l : List ℕ) (at : ℕ) → AllBytes l → at + w ≤ length l → withNat w l at (natAt w l at) ≡ l
 unfolding withNat
 withNat-natAt w l at h f =
     let n : length (take w (drop at l)) ≡ w = length-take-le w (drop at l) (simp length-drop (omega arith)) in

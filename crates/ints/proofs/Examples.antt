@@ -4,7 +4,7 @@ use mathlib.Core.List.{List, [], _∷_, map}
 use Prim.Native.Nat.{ℕ, _/_, _%_}
 use lib.IntN.{ℤ, pos}
 use Rattle.ints.specs.BigEndian.{digits, natAt}
-use Rattle.ints.specs.Saturating.{clamp32, less, minus, negated, plus}
+use Rattle.ints.specs.Saturating.{clamp32, satSub, minus, satNeg, satAdd}
 use Rattle.ints.specs.Scale.{floorDiv, scaled}
 use Rattle.ints.specs.Signed.{intAt, pattern, signed}
 
@@ -29,9 +29,9 @@ pub record Worked : Type 0 where
       × (map (signed 4) (2147483647 ∷ 2147483648 ∷ []) ≡ (greatest ∷ least ∷ []))
   pub chain-bytes : intAt 2 (128 ∷ 0 ∷ []) 0 ≡ minus 32768
   -- sums and negations stop at the ends of 32 bits, and go up to them
-  pub stops : (plus greatest (pos 1) ≡ greatest) × (plus least (minus 1) ≡ least) × (negated least ≡ greatest) × (plus greatest (pos 0) ≡ greatest)
+  pub stops : (satAdd greatest (pos 1) ≡ greatest) × (satAdd least (minus 1) ≡ least) × (satNeg least ≡ greatest) × (satAdd greatest (pos 0) ≡ greatest)
   -- a subtraction saturates once: it is not the addition of a saturated negation
-  pub once : (less (minus 1) least ≡ greatest) × (plus (minus 1) (negated least) ≡ pos 2147483646)
+  pub once : (satSub (minus 1) least ≡ greatest) × (satAdd (minus 1) (satNeg least) ≡ pos 2147483646)
   -- the scale: at 1 / 16 the ties 8, -8, 24 and -24 go up, -9 goes down, 7 to 0
   pub ties : map (λ (v : ℤ). scaled v 1 16) (pos 8 ∷ minus 8 ∷ pos 24 ∷ minus 24 ∷ minus 9 ∷ pos 7 ∷ [])
       ≡ (pos 1 ∷ pos 0 ∷ pos 2 ∷ minus 1 ∷ minus 1 ∷ pos 0 ∷ [])

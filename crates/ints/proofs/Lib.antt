@@ -7,3 +7,5 @@ pub mod SaturatingLaws
 pub mod ScaleLaws
 pub mod SumsLaws
 pub mod Examples
+pub mod TallyLaws
+pub mod StepsLaws

@@ -7,8 +7,10 @@ use borrow.Author.Tests.{lt-ltb, le-ltb}
 use lib.Dec.{ltb}
 use lib.IntN.{ℤ, pos, negsuc, negℤ, natAbs, _+ℤ_, _-ℤ_}
 use lib.Signed.{ltZ, mag}
-use Rattle.ints.specs.Signed.{InBytes, signed, val}
-use Rattle.ints.specs.Saturating.{clamp32, less, minus, negated, plus, unlifted}
+use Rattle.ints.specs.Signed.{InBytes, signed}
+use Rattle.ints.specs.code.Signed.{val}
+use Rattle.ints.specs.Saturating.{clamp32, satSub, minus, satNeg, satAdd}
+use Rattle.ints.specs.code.Saturating.{unlifted}
 use Rattle.ints.proofs.Ints.{add-diff, diff, diff-of, dn, dn-diff, eq-diff, lt-diff, neg-diff, one-side, sub-pos, up, up-diff}
 use Rattle.ints.proofs.SignedLaws.{signed-high, signed-low}
 use Rattle.ints.proofs.SizeLaws.{abs-add, abs-neg, abs-parts, abs-sub, mag-abs, mag-up}
@@ -73,13 +75,13 @@ clamp-nearest z y h = by-clamp (λ w. natAbs (z -ℤ w) ≤ natAbs (z -ℤ y)) z
     (λ l k. omega (arith, apart z z))
 
 -- ---- sums that do not saturate are exact
-pub plus-exact : (a b : ℤ) → natAbs a + natAbs b ≤ 2147483647 → plus a b ≡ a +ℤ b
+pub plus-exact : (a b : ℤ) → natAbs a + natAbs b ≤ 2147483647 → satAdd a b ≡ a +ℤ b
 plus-exact a b h = clamp-id (a +ℤ b) (omega (arith, mag-abs (a +ℤ b), abs-add a b))
 
-pub less-exact : (a b : ℤ) → natAbs a + natAbs b ≤ 2147483647 → less a b ≡ a -ℤ b
+pub less-exact : (a b : ℤ) → natAbs a + natAbs b ≤ 2147483647 → satSub a b ≡ a -ℤ b
 less-exact a b h = clamp-id (a -ℤ b) (omega (arith, mag-abs (a -ℤ b), abs-sub a b))
 
-pub negated-exact : (a : ℤ) → natAbs a ≤ 2147483647 → negated a ≡ negℤ a
+pub negated-exact : (a : ℤ) → natAbs a ≤ 2147483647 → satNeg a ≡ negℤ a
 negated-exact a h = clamp-id (negℤ a) (omega (arith, mag-abs (negℤ a), abs-neg a))
 
 -- ---- v + 2 ^ 31, and back from n to n - 2 ^ 32
@@ -109,10 +111,10 @@ clamp-lifted a b = go (decLt a b) (decLt (b + 4294967295) a)
 
 -- so a sum and a difference of lifted numbers saturate as code computes them
 module _ (x w : ℕ) where
-  pub lifted-plus : unlifted (min (x + w - 2147483648) 4294967295) ≡ plus (unlifted x) (unlifted w)
+  pub lifted-plus : unlifted (min (x + w - 2147483648) 4294967295) ≡ satAdd (unlifted x) (unlifted w)
   lifted-plus = clamp-lifted (x + w) 2147483648 ∙ rw (sub-pos x 2147483648, sub-pos w 2147483648, add-diff)
 
-  pub lifted-less : unlifted (min (x + 2147483648 - w) 4294967295) ≡ less (unlifted x) (unlifted w)
+  pub lifted-less : unlifted (min (x + 2147483648 - w) 4294967295) ≡ satSub (unlifted x) (unlifted w)
   lifted-less = clamp-lifted (x + 2147483648) w ∙ rw (sub-pos x 2147483648, sub-pos w 2147483648, neg-diff, add-diff) (ap clamp32 (eq-diff _ _ _ _ (omega arith)))
 
 -- a number near zero, lifted, is near 2 ^ 31

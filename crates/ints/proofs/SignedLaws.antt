@@ -8,8 +8,9 @@ use native.Mathlib.Omega.{arith}
 use borrow.Author.Tests.{lt-ltb, le-ltb}
 use lib.IntN.{ℤ, pos, negsuc}
 use lib.ListN.{length, take, drop}
-use Rattle.ints.specs.BigEndian.{Bytes, digits, natAt}
-use Rattle.ints.specs.Signed.{half, InBytes, intAt, pattern, signed, val, withInt}
+use Rattle.ints.specs.BigEndian.{AllBytes, digits, natAt}
+use Rattle.ints.specs.Signed.{half, InBytes, intAt, pattern, signed, withInt}
+use Rattle.ints.specs.code.Signed.{val}
 use Rattle.ints.proofs.Ints.{by-sign, diff, eq-diff, negsuc-diff, pos-diff, sub-pos}
 use Rattle.ints.proofs.BigEndianLaws.{digits-natAt, natAt-digits, natAt-fits, natAt-withNat, withNat-natAt}
 
@@ -78,17 +79,17 @@ unfolding intAt withInt
 intAt-withInt w l at z o f h = ap (signed w) (natAt-withNat w l at (pattern w z) f (pattern-fits w z h)) ∙ signed-pattern w z o h
 
 -- a write of what was read changes nothing
-pub withInt-intAt : (w : ℕ) (l : List ℕ) (at : ℕ) → Bytes l → at + w ≤ length l → withInt w l at (intAt w l at) ≡ l
+pub withInt-intAt : (w : ℕ) (l : List ℕ) (at : ℕ) → AllBytes l → at + w ≤ length l → withInt w l at (intAt w l at) ≡ l
 unfolding intAt withInt
 withInt-intAt w l at h f = rw (pattern-signed w (natAt w l at) (natAt-fits w l at h)) (withNat-natAt w l at h f)
 
 -- bytes hold an integer of that many bytes
-pub intAt-in : (w : ℕ) (l : List ℕ) (at : ℕ) → 1 ≤ w → Bytes l → InBytes w (intAt w l at)
+pub intAt-in : (w : ℕ) (l : List ℕ) (at : ℕ) → 1 ≤ w → AllBytes l → InBytes w (intAt w l at)
 unfolding intAt
 intAt-in w l at o h = signed-in w (natAt w l at) o (natAt-fits w l at h)
 
 -- the bytes of an integer that was read are those bytes, and the integer of an integer's bytes is the integer
-pub digits-intAt : (w : ℕ) (l : List ℕ) (at : ℕ) → Bytes l → at + w ≤ length l → digits w (pattern w (intAt w l at)) ≡ take w (drop at l)
+pub digits-intAt : (w : ℕ) (l : List ℕ) (at : ℕ) → AllBytes l → at + w ≤ length l → digits w (pattern w (intAt w l at)) ≡ take w (drop at l)
 unfolding intAt
 digits-intAt w l at h f = rw (pattern-signed w (natAt w l at) (natAt-fits w l at h)) (digits-natAt w l at h f)
 

@@ -5,8 +5,8 @@ use lib.ListN.{getD}
 use lib.Seq.{sets}
 
 -- each element is a byte
-abbrev pub Bytes : List ℕ → Type 0
-Bytes l = (k : ℕ) → getD l k 0 < 256
+abbrev pub AllBytes : List ℕ → Type 0
+AllBytes l = (k : ℕ) → getD l k 0 < 256
 
 -- the w bytes of the number n
 unfoldable pub digits : ℕ → ℕ → List ℕ
@@ -17,6 +17,10 @@ digits (suc w) n = digits w (n / 256) ++ (n % 256 ∷ [])
 unfoldable pub natAt : ℕ → List ℕ → ℕ → ℕ
 natAt zero l at = 0
 natAt (suc w) l at = natAt w l at * 256 + getD l (at + w) 0
+
+-- the uint16 at `at`
+abbrev pub u16At : List ℕ → ℕ → ℕ
+u16At l at = natAt 2 l at
 
 -- the list with the number n in the w bytes at `at`
 unfoldable pub withNat : ℕ → List ℕ → ℕ → ℕ → List ℕ

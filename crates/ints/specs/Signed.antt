@@ -31,7 +31,3 @@ intAt w l at = signed w (natAt w l at)
 -- the list with the integer z in the w bytes at `at`
 unfoldable pub withInt : ℕ → List ℕ → ℕ → ℤ → List ℕ
 withInt w l at z = withNat w l at (pattern w z)
-
--- code holds a signed number as its pattern of four bytes, n: this is the integer
-abbrev pub val : ℕ → ℤ
-val n = signed 4 n

@@ -7,7 +7,7 @@ unfoldable pub total : List ℤ → ℤ
 total [] = pos 0
 total (z ∷ zs) = z +ℤ total zs
 
--- the list put to z one by one, from the front
+-- z with each of the list added or subtracted, as f says, one by one from the front
 unfoldable pub stepwise : (ℤ → ℤ → ℤ) → ℤ → List ℤ → ℤ
 stepwise f z [] = z
 stepwise f z (a ∷ zs) = stepwise f (f z a) zs

@@ -7,8 +7,9 @@ use native.Mathlib.Omega.{arith}
 use lib.IntN.{ℤ, pos, _-ℤ_}
 use lib.ListN.{length}
 use borrow.Author.Tests.{le-leb, lt-leb}
-use Rattle.ints.specs.Saturating.{plus}
-use Rattle.ints.specs.Signed.{InBytes, val}
+use Rattle.ints.specs.Saturating.{satAdd}
+use Rattle.ints.specs.Signed.{InBytes}
+use Rattle.ints.specs.code.Signed.{val}
 use Rattle.ints.proofs.Ints.{sub-pos}
 use Rattle.slots.specs.Axis.{cross, main}
 use Rattle.slots.specs.Slot.{Slot}
@@ -21,10 +22,10 @@ use Rattle.slots.specs.declared.fields.Measure.the-variants.{Offset}
 use Rattle.slots.specs.Parent.{cleared}
 use Rattle.slots.proofs.ChainLaws.{back-bits, near-fits}
 use Rattle.slots.proofs.LineLaws.{update-both}
-use Rattle.tables.specs.Anchor.{Spot}
-use Rattle.answers.specs.Outcome.{Effect}
-use Rattle.answers.specs.Said.{Range, break, Said, applied, declined, refused}
-use Rattle.marks.specs.Attachment.{between, hung, planned}
+use Rattle.tables.specs.Anchor.{Point}
+use Rattle.answers.specs.code.Effect.{Effect}
+use Rattle.answers.specs.Said.{Range, unsafeToBreak, Said, applied, declined, refused}
+use Rattle.marks.specs.Attachment.{anchorDelta, markAttached, planned}
 use Rattle.marks.specs.Plan.{Plan, stop, endless, hang, planSaid}
 
 -- the bits of a chain back to slot b stand for the distance, and it is a number of 16 bits
@@ -36,16 +37,16 @@ module _ (idx b : ℕ) (back : b < idx) (near : idx - b ≤ 32768) where
   chain-fits = rw (back-bits idx b back near) (near-fits b idx (omega arith) (omega arith))
 
 -- what code writes to the mark's slot, in its order, hangs it
-module _ (s u : ℕ) (d : Direction) (idx b : ℕ) (base mark : Spot) (walk : ℤ) (ss : List Slot) (l : idx < length ss) where
+module _ (s u : ℕ) (d : Direction) (idx b : ℕ) (base mark : Point) (walk : ℤ) (ss : List Slot) (l : idx < length ss) where
   pub hung-by : (along across : Axis) (x y z chain : ℤ) (ss₁ ss₂ ss₃ ss₄ : List Slot) → along ≡ main d → across ≡ cross d
-      → x ≡ between s u along base mark → y ≡ between s u across base mark → z ≡ plus y walk → chain ≡ pos b -ℤ pos idx
+      → x ≡ anchorDelta s u along base mark → y ≡ anchorDelta s u across base mark → z ≡ satAdd y walk → chain ≡ pos b -ℤ pos idx
       → ss₁ ≡ update idx (withMeasure Offset along x) ss → ss₂ ≡ update idx (withMeasure Offset across z) ss₁
       → ss₃ ≡ update idx (withChain chain) ss₂ → ss₄ ≡ update idx (withByte AttachType 1) ss₃
-      → ss₄ ≡ update idx (hung s u d idx b base mark walk) ss
+      → ss₄ ≡ update idx (markAttached s u d idx b base mark walk) ss
   hung-by along across x y z chain ss₁ ss₂ ss₃ ss₄ is-along is-across is-x is-y is-z is-chain e₁ e₂ e₃ e₄ =
-      let x′ : x ≡ between s u (main d) base mark = is-x ∙ ap (λ (a : Axis). between s u a base mark) is-along in
-      let y′ : y ≡ between s u (cross d) base mark = is-y ∙ ap (λ (a : Axis). between s u a base mark) is-across in
-      let z′ : z ≡ plus (between s u (cross d) base mark) walk = is-z ∙ ap (λ (v : ℤ). plus v walk) y′ in
+      let x′ : x ≡ anchorDelta s u (main d) base mark = is-x ∙ ap (λ (a : Axis). anchorDelta s u a base mark) is-along in
+      let y′ : y ≡ anchorDelta s u (cross d) base mark = is-y ∙ ap (λ (a : Axis). anchorDelta s u a base mark) is-across in
+      let z′ : z ≡ satAdd (anchorDelta s u (cross d) base mark) walk = is-z ∙ ap (λ (v : ℤ). satAdd v walk) y′ in
       let two : ss₂ ≡ update idx (λ m. withMeasure Offset across z (withMeasure Offset along x m)) ss = update-both idx _ ss _ l e₁ e₂ in
       let three : ss₃ ≡ update idx (λ m. withChain chain (withMeasure Offset across z (withMeasure Offset along x m))) ss = update-both idx _ ss _ l two e₃ in
       update-both idx _ ss _ l three e₄ ∙ rw (is-along, is-across, x′, z′, is-chain)
@@ -58,11 +59,11 @@ module _ (s u : ℕ) (d : Direction) (idx : ℕ) {plan : Plan} {ss : List Slot} 
   pub effect-endless : endless ≡ plan → Effect ss (planSaid idx plan) (planned s u d idx plan ss) (refused 7) ss
   effect-endless e = rw (← e) (record { answer = refl; slots-are = refl })
 
-  module _ {b : ℕ} {base mark : Spot} {walk : ℤ} (e : hang b base mark walk ≡ plan) {r : Said} {ss′ : List Slot} where
-    pub effect-far : 32768 < idx - b → r ≡ applied (idx + 1) (break b (idx + 1) ∷ []) false → ss′ ≡ cleared ss idx
+  module _ {b : ℕ} {base mark : Point} {walk : ℤ} (e : hang b base mark walk ≡ plan) {r : Said} {ss′ : List Slot} where
+    pub effect-far : 32768 < idx - b → r ≡ applied (idx + 1) (unsafeToBreak b (idx + 1) ∷ []) false → ss′ ≡ cleared ss idx
         → Effect ss (planSaid idx plan) (planned s u d idx plan ss) r ss′
     effect-far h is-r is-ss = rw (← e, lt-leb (idx - b) 32768 h) (record { answer = is-r; slots-are = is-ss })
 
-    pub effect-hung : idx - b ≤ 32768 → r ≡ applied (idx + 1) (break b (idx + 1) ∷ []) true → ss′ ≡ update idx (hung s u d idx b base mark walk) ss
+    pub effect-hung : idx - b ≤ 32768 → r ≡ applied (idx + 1) (unsafeToBreak b (idx + 1) ∷ []) true → ss′ ≡ update idx (markAttached s u d idx b base mark walk) ss
         → Effect ss (planSaid idx plan) (planned s u d idx plan ss) r ss′
     effect-hung h is-r is-ss = rw (← e, le-leb (idx - b) 32768 h) (record { answer = is-r; slots-are = is-ss })

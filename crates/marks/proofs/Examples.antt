@@ -18,16 +18,18 @@ use Rattle.slots.specs.Line.{slot, update}
 use Rattle.slots.specs.Parent.{parent}
 use Rattle.slots.specs.declared.axis.Axis.the-variants.{X, Y}
 use Rattle.slots.specs.declared.axis.Direction.the-variants.{LeftToRight, TopToBottom}
-use Rattle.tables.specs.Anchor.{Spot}
+use Rattle.tables.specs.Anchor.{Point}
 use Rattle.tables.specs.Spans.{ascends, firstHolding, spanAt, spansFrom}
-use Rattle.answers.specs.Said.{break, concat, applied, declined, refused}
+use Rattle.answers.specs.Said.{unsafeToBreak, unsafeToConcat, applied, declined, refused}
 use Rattle.marks.specs.Attachment.{planned}
 use Rattle.marks.specs.Component.{componentIndex}
-use Rattle.marks.specs.MarkPos.{anchorsFor, baseIndex, markIndex, marksGood}
+use Rattle.marks.specs.Anchors.{anchorsFor}
+use Rattle.marks.specs.MarkPos.{baseIndex, markIndex, marksGood}
 use Rattle.marks.specs.Plan.{endless, fits, hang, Plan, planOf, planSaid, stop}
 use Rattle.marks.specs.Search.{accepted, nearest, stopsAt}
-use Rattle.marks.specs.Walk.{crossWalk, NeverEnds, walkIn}
-use Rattle.marks.specs.declared.subtable.Kind.the-variants.{Base, Ligature}
+use Rattle.marks.specs.Walk.{crossOffset, crossOffsetIn}
+use Rattle.marks.specs.theorems.Endless.{Endless}
+use Rattle.marks.specs.declared.mark_pos.Target.the-variants.{Base, Ligature}
 use Rattle.marks.proofs.WalkLaws.{refused-never}
 
 -- a slot, by glyph, ligature id, component, flags, type, chain and y offset
@@ -76,7 +78,7 @@ abbrev subtable : ℕ → List ℕ
 subtable off =
     words (1 ∷ 12 ∷ 18 ∷ 1 ∷ 24 ∷ 36 ∷ 1 ∷ 1 ∷ 9 ∷ 1 ∷ 1 ∷ 5 ∷ 1 ∷ 0 ∷ 6 ∷ 1 ∷ 10 ∷ 20 ∷ 1 ∷ off ∷ 1 ∷ 100 ∷ 200 ∷ [])
 
-abbrev spot : ℤ → ℤ → Spot
+abbrev spot : ℤ → ℤ → Point
 spot x y = record { x = x; y = y }
 
 pub record Worked : Type 0 where
@@ -84,13 +86,13 @@ pub record Worked : Type 0 where
   pub other-ids : map (λ (i : ℕ). componentIndex 3 (part 4 2) (part i 0)) (4 ∷ 5 ∷ 0 ∷ []) ≡ (1 ∷ 2 ∷ 2 ∷ [])
   pub no-ids : componentIndex 3 (part 0 2) (part 0 0) ≡ 2
   -- the loop: the walk of slot 1 never ends, on either axis; that of the mark ends at once
-  pub endless-walk : (crossWalk Y loop 1 ≡ none) × (crossWalk X loop 1 ≡ none) × (crossWalk Y loop 2 ≡ some (pos 0))
+  pub endless-walk : (crossOffset Y loop 1 ≡ none) × (crossOffset X loop 1 ≡ none) × (crossOffset Y loop 2 ≡ some (pos 0))
   -- and so, by the law of the walk, for every number of steps it has not ended
-  pub never : NeverEnds loop 1
+  pub never : Endless loop 1
   -- two hops, by the cursive bit of types 2 and 3: it saturates step by step, from the slot outward
-  pub two-hops : map (crossWalk Y hops) (0 ∷ 1 ∷ 2 ∷ []) ≡ (some (negsuc 4) ∷ some (negsuc 3) ∷ some (pos 2147483642) ∷ [])
+  pub two-hops : map (crossOffset Y hops) (0 ∷ 1 ∷ 2 ∷ []) ≡ (some (negsuc 4) ∷ some (negsuc 3) ∷ some (pos 2147483642) ∷ [])
   -- a parent outside the line ends it
-  pub outside : (crossWalk Y (hanging 2 (negsuc 0) (pos 5) ∷ []) 0 ≡ some (pos 5)) × (crossWalk Y (hanging 2 (pos 1) (pos 5) ∷ []) 0 ≡ some (pos 5))
+  pub outside : (crossOffset Y (hanging 2 (negsuc 0) (pos 5) ∷ []) 0 ≡ some (pos 5)) × (crossOffset Y (hanging 2 (pos 1) (pos 5) ∷ []) 0 ≡ some (pos 5))
   -- the nearest number that passes, and none
   pub nearest-is : map (nearest (λ (k : ℕ). eqb (k % 3) 0)) (6 ∷ 4 ∷ 3 ∷ 0 ∷ []) ≡ (some 3 ∷ some 3 ∷ some 0 ∷ none ∷ [])
   -- of a multiple substitution the first glyph is accepted, and the one after the mark that breaks it; as a ligature only the first
@@ -105,19 +107,19 @@ pub record Worked : Type 0 where
   pub refused-7 : (planOf Base Y (subtable 4) loop 2 ≡ endless) × (planSaid 2 (planOf Base Y (subtable 4) loop 2) ≡ refused 7)
   pub no-anchor : planSaid 2 (planOf Base Y (subtable 0) loop 2) ≡ declined []
   -- nothing is seen before the mark, and what was found is not covered: concat
-  pub none-found : planOf Base Y (subtable 4) (glyphAt 5 0 0 0 0 (pos 0) (pos 0) ∷ glyphAt 9 0 0 2 0 (pos 0) (pos 0) ∷ []) 1 ≡ stop (concat 0 2 ∷ [])
-  pub uncovered : planOf Base Y (subtable 4) (part 0 0 ∷ part 0 0 ∷ part 0 0 ∷ []) 2 ≡ stop (concat 1 3 ∷ [])
+  pub none-found : planOf Base Y (subtable 4) (glyphAt 5 0 0 0 0 (pos 0) (pos 0) ∷ glyphAt 9 0 0 2 0 (pos 0) (pos 0) ∷ []) 1 ≡ stop (unsafeToConcat 0 2 ∷ [])
+  pub uncovered : planOf Base Y (subtable 4) (part 0 0 ∷ part 0 0 ∷ part 0 0 ∷ []) 2 ≡ stop (unsafeToConcat 1 3 ∷ [])
   -- attached, left to right: base anchor less mark anchor, scaled once, and across the line the base's walk
   pub across-y : slot (planned 500 1000 LeftToRight 2 (hang 0 (spot (pos 100) (pos 205)) (spot (pos 10) (pos 20)) (pos 30)) plain) 2
       ≡ record { glyph = 9; ligatureId = 0; component = 0; flags = 2; attachType = 1; chain = negsuc 1; xAdvance = pos 600; yAdvance = pos 0; xOffset = pos 45; yOffset = pos 123; cluster = 0 }
   -- top to bottom the walk goes to x
   pub across-x : slot (planned 500 1000 TopToBottom 2 (hang 0 (spot (pos 100) (pos 205)) (spot (pos 10) (pos 20)) (pos 30)) plain) 2
       ≡ record { glyph = 9; ligatureId = 0; component = 0; flags = 2; attachType = 1; chain = negsuc 1; xAdvance = pos 600; yAdvance = pos 0; xOffset = pos 75; yOffset = pos 93; cluster = 0 }
-  pub passes : planSaid 2 (planOf Base Y (subtable 4) plain 2) ≡ applied 3 (break 0 3 ∷ []) true
+  pub passes : planSaid 2 (planOf Base Y (subtable 4) plain 2) ≡ applied 3 (unsafeToBreak 0 3 ∷ []) true
 
 pub worked : Worked
 unfolding ascends firstHolding spanAt spansFrom natAt intAt signed clamp32 floorDiv scaled update parent
-    anchorsFor baseIndex markIndex marksGood planOf nearest stopsAt crossWalk walkIn
+    anchorsFor baseIndex markIndex marksGood planOf nearest stopsAt crossOffset crossOffsetIn
 worked = record {
   other-ids = refl;
   no-ids = refl;
@@ -166,21 +168,21 @@ pub record Ends : Type 0 where
   pub components : map (onto (ligature 24 0 two) 4) (1 ∷ 2 ∷ 15 ∷ 0 ∷ []) ≡ (at 100 ∷ at 200 ∷ at 200 ∷ at 200 ∷ [])
   pub another-id : onto (ligature 24 0 two) 3 1 ≡ at 200
   -- no component: concat, also where the mark array is missing; which else is a decline, as are a cut component table and a class not below the class count
-  pub no-component : map (λ (a : ℕ). onto (ligature a 0 (0 ∷ [])) 4 1) (24 ∷ 0 ∷ []) ≡ (stop (concat 0 2 ∷ []) ∷ stop (concat 0 2 ∷ []) ∷ [])
+  pub no-component : map (λ (a : ℕ). onto (ligature a 0 (0 ∷ [])) 4 1) (24 ∷ 0 ∷ []) ≡ (stop (unsafeToConcat 0 2 ∷ []) ∷ stop (unsafeToConcat 0 2 ∷ []) ∷ [])
   pub missing-parts : onto (ligature 0 0 two) 4 1 ∷ onto (ligature 24 0 (2 ∷ 6 ∷ [])) 4 1 ∷ onto (ligature 24 1 two) 4 1 ∷ [] ≡ (stop [] ∷ stop [] ∷ stop [] ∷ [])
   -- a base coverage of offset 0 declines before the search, an empty one does search; an uncovered mark declines first of all
-  pub coverages : alone 12 0 ∷ alone 12 18 ∷ alone 18 18 ∷ alone 0 18 ∷ [] ≡ (stop [] ∷ stop (concat 0 1 ∷ []) ∷ stop [] ∷ stop [] ∷ [])
+  pub coverages : alone 12 0 ∷ alone 12 18 ∷ alone 18 18 ∷ alone 0 18 ∷ [] ≡ (stop [] ∷ stop (unsafeToConcat 0 1 ∷ []) ∷ stop [] ∷ stop [] ∷ [])
   -- a multiplied glyph with a component above 0 in slot 0 is accepted as a base, not as a ligature
   pub first-slot : (accepted Base (glyphAt 5 4 3 5 0 (pos 0) (pos 0) ∷ []) 0 ≡ true) × (accepted Ligature (glyphAt 5 4 3 5 0 (pos 0) (pos 0) ∷ []) 0 ≡ false)
   -- of the type the walk tests the cursive bit alone: 254 has it, 253 has not
-  pub by-bit : map (λ (t : ℕ). crossWalk Y (hanging 0 (pos 0) (pos 5) ∷ hanging t (negsuc 0) (pos 7) ∷ []) 1) (254 ∷ 253 ∷ []) ≡ (some (pos 12) ∷ some (pos 7) ∷ [])
+  pub by-bit : map (λ (t : ℕ). crossOffset Y (hanging 0 (pos 0) (pos 5) ∷ hanging t (negsuc 0) (pos 7) ∷ []) 1) (254 ∷ 253 ∷ []) ≡ (some (pos 12) ∷ some (pos 7) ∷ [])
   -- a tail that leads into the loop never ends either; by type 1 it is not followed
-  pub tail : map (λ (t : ℕ). crossWalk Y (hanging 2 (pos 1) (pos 5) ∷ hanging 2 (negsuc 0) (pos 7) ∷ hanging t (negsuc 0) (pos 9) ∷ []) 2) (2 ∷ 1 ∷ []) ≡ (none ∷ some (pos 9) ∷ [])
+  pub tail : map (λ (t : ℕ). crossOffset Y (hanging 2 (pos 1) (pos 5) ∷ hanging 2 (negsuc 0) (pos 7) ∷ hanging t (negsuc 0) (pos 9) ∷ []) 2) (2 ∷ 1 ∷ []) ≡ (none ∷ some (pos 9) ∷ [])
   -- a base 32,768 slots before the mark can be reached, one farther can't
   pub far : map (λ (b : ℕ). fits 40000 b) (7232 ∷ 7231 ∷ []) ≡ (true ∷ false ∷ [])
 
 pub ends : Ends
-unfolding firstHolding spanAt spansFrom natAt intAt signed clamp32 parent anchorsFor baseIndex markIndex planOf nearest stopsAt crossWalk walkIn
+unfolding firstHolding spanAt spansFrom natAt intAt signed clamp32 parent anchorsFor baseIndex markIndex planOf nearest stopsAt crossOffset crossOffsetIn
 ends = record {
   components = refl;
   another-id = refl;

@@ -1,41 +1,42 @@
 -- Laws of mark subtables: what the check says of a subtable's bytes, and what is found in one, by what code read. Assumes nothing.
-use mathlib.Core.Path.{_≡_, refl, sym, ap, _∙_}
+use mathlib.Core.Path.{_≡_, sym, ap, _∙_}
 use mathlib.Core.Bool.{Bool, true, false, and-false}
 use mathlib.Core.List.{List, []}
-use mathlib.Core.Option.{Option, some, none}
+use mathlib.Core.Option.{Option}
 use Prim.Native.Nat.{ℕ, _+_, _*_, _-_, _≤_, _<_, min}
 use native.Mathlib.Omega.{arith}
 use lib.Dec.{eqb}
 use lib.ListN.{length, drop}
-use borrow.Author.Tests.{eq-eqb, le-ltb, lt-leb, lt-ltb, ne-eqb}
-use Rattle.ints.specs.BigEndian.{Bytes, natAt}
+use borrow.Author.Tests.{eq-eqb, lt-leb, lt-ltb, ne-eqb}
+use Rattle.ints.specs.BigEndian.{AllBytes, natAt}
 use Rattle.ints.specs.Choice.{if_then_else_}
 use Rattle.ints.proofs.BigEndianLaws.{bytes-drop}
 use Rattle.ints.proofs.TestLaws.{and-left, and-right}
 use Rattle.slots.specs.Slot.{Slot}
 use Rattle.tables.specs.AnchorRows.{rowsOf}
 use Rattle.tables.specs.Coverage.{coverageGoodAt}
-use Rattle.tables.specs.MarkArray.{MarkSpot, markOf}
+use Rattle.tables.specs.MarkArray.{MarkAnchor, markOf}
 use Rattle.tables.specs.Part.{childOf, offsetThere, tableAt}
 use Rattle.tables.specs.declared.anchor_rows.Rows.{Rows}
 use Rattle.tables.specs.declared.anchor_rows.Rows.the-variants.{Of, Absent}
 use Rattle.tables.proofs.HeaderLaws.{one-format}
+use Rattle.marks.specs.Anchors.{missing, anchorsFor, ligatureAttach, ligatureAttachOffsets, ligatureCount, markAt, rowFor, rowless, rowTable, afterMark, afterRows}
 use Rattle.marks.specs.Component.{componentIndex}
-use Rattle.marks.specs.MarkPos.{missing, empty, anchorsFor, markAt, markClassCount, marksGood, noComponent, rowFor, rowless, rowTable, withMark, withRows}
-use Rattle.marks.specs.declared.subtable.Kind.{Kind}
-use Rattle.marks.specs.declared.subtable.Kind.the-variants.{Base, Ligature}
+use Rattle.marks.specs.MarkPos.{baseArrayOffset, baseCoverageOffset, headerBytes, markArrayOffset, markClassCount, markCoverageOffset, marksGood}
+use Rattle.marks.specs.declared.mark_pos.Target.{Target}
+use Rattle.marks.specs.declared.mark_pos.Target.the-variants.{Base, Ligature}
 
 -- what the check of a subtable says: its header is there, and both coverages are good
 pub record Good (t : List ℕ) : Type 0 where
-  pub header : 12 ≤ length t
-  pub marks-good : coverageGoodAt t (natAt 2 t 2) ≡ true
-  pub bases-good : coverageGoodAt t (natAt 2 t 4) ≡ true
+  pub header : headerBytes ≤ length t
+  pub marks-good : coverageGoodAt t (markCoverageOffset t) ≡ true
+  pub bases-good : coverageGoodAt t (baseCoverageOffset t) ≡ true
 
 pub good : (t : List ℕ) → marksGood t ≡ true → Good t
 unfolding marksGood
 good t e =
-    let f = one-format 12 t _ e in
-    record { header = f .header; marks-good = and-left _ _ (f .others); bases-good = and-right (coverageGoodAt t (natAt 2 t 2)) _ (f .others) }
+    let f = one-format headerBytes t _ e in
+    record { header = f .header; marks-good = and-left _ _ (f .others); bases-good = and-right (coverageGoodAt t (markCoverageOffset t)) _ (f .others) }
 
 -- ---- the component for a mark, by the tests in order: i and j are the ligature's id and the mark's, c is the mark's component
 module _ (n : ℕ) (mark lig : Slot) (some : 0 < n) {i : ℕ} (is-i : i ≡ lig .ligatureId) where
@@ -63,75 +64,64 @@ module _ (n : ℕ) (mark lig : Slot) (some : 0 < n) {i : ℕ} (is-i : i ≡ lig 
       component-own h l = (rw (own h) (omega arith), omega arith)
 
 -- ---- the table with the anchor rows: arr is the array at offset off, as code found it
-module _ (kind : Kind) (t : List ℕ) (k : ℕ) (arr : List ℕ) (off : ℕ) (read : off ≡ natAt 2 t 10) (is : arr ≡ tableAt t off) where
-  array : arr ≡ tableAt t (natAt 2 t 10)
+module _ (target : Target) (t : List ℕ) (k : ℕ) (arr : List ℕ) (off : ℕ) (read : off ≡ baseArrayOffset t) (is : arr ≡ tableAt t off) where
+  array : arr ≡ tableAt t (baseArrayOffset t)
   array = is ∙ ap (tableAt t) read
 
-  pub rows-base : kind ≡ Base → arr ≡ rowTable kind t k
+  pub rows-base : target ≡ Base → arr ≡ rowTable target t k
   rows-base e = rw e array
 
-  of-ligature : kind ≡ Ligature → rowTable kind t k ≡ childOf arr 2 (natAt 2 arr 0) k
-  of-ligature e = rw e (ap (λ (l : List ℕ). childOf l 2 (natAt 2 l 0) k) (sym array))
+  of-ligature : target ≡ Ligature → rowTable target t k ≡ ligatureAttach arr k
+  of-ligature e = rw e (ap (λ (l : List ℕ). ligatureAttach l k) (sym array))
 
-  pub rows-cut : kind ≡ Ligature → length arr < 2 → [] ≡ rowTable kind t k
+  pub rows-cut : target ≡ Ligature → length arr < 2 → [] ≡ rowTable target t k
   rows-cut e h = sym (of-ligature e ∙ rw (lt-leb (2 + 2 * k + 2) (length arr) (omega arith), and-false))
 
-  pub rows-ligature : kind ≡ Ligature → (n : ℕ) → n ≡ natAt 2 arr 0 → (r : List ℕ) → r ≡ childOf arr 2 n k → r ≡ rowTable kind t k
-  rows-ligature e n is-n r is-r = is-r ∙ ap (λ (m : ℕ). childOf arr 2 m k) is-n ∙ sym (of-ligature e)
+  pub rows-ligature : target ≡ Ligature → (n : ℕ) → n ≡ ligatureCount arr → (r : List ℕ) → r ≡ childOf arr ligatureAttachOffsets n k → r ≡ rowTable target t k
+  rows-ligature e n is-n r is-r = is-r ∙ ap (λ (m : ℕ). childOf arr ligatureAttachOffsets m k) is-n ∙ sym (of-ligature e)
 
 -- parts of bytes are bytes
-table-bytes : (t : List ℕ) (off : ℕ) → Bytes t → Bytes (tableAt t off)
+table-bytes : (t : List ℕ) (off : ℕ) → AllBytes t → AllBytes (tableAt t off)
 table-bytes t off h = go (eqb off 0)
   where
-    go : (z : Bool) → Bytes (if z then [] else drop off t)
+    go : (z : Bool) → AllBytes (if z then [] else drop off t)
     go true = λ k. omega arith
     go false = bytes-drop off t h
 
-child-bytes : (t : List ℕ) (at count k : ℕ) → Bytes t → Bytes (childOf t at count k)
+child-bytes : (t : List ℕ) (at count k : ℕ) → AllBytes t → AllBytes (childOf t at count k)
 child-bytes t at count k h = go (offsetThere t at count k)
   where
-    go : (z : Bool) → Bytes (if z then tableAt t (natAt 2 t (at + 2 * k)) else [])
+    go : (z : Bool) → AllBytes (if z then tableAt t (natAt 2 t (at + 2 * k)) else [])
     go true = table-bytes t (natAt 2 t (at + 2 * k)) h
     go false = λ j. omega arith
 
-pub rows-bytes : (kind : Kind) (t : List ℕ) (k : ℕ) → Bytes t → Bytes (rowTable kind t k)
-rows-bytes Base t k h = table-bytes t (natAt 2 t 10) h
+pub rows-bytes : (target : Target) (t : List ℕ) (k : ℕ) → AllBytes t → AllBytes (rowTable target t k)
+rows-bytes Base t k h = table-bytes t (baseArrayOffset t) h
 rows-bytes Ligature t k h =
-    let a : List ℕ = tableAt t (natAt 2 t 10) in
-    child-bytes a 2 (natAt 2 a 0) k (table-bytes t (natAt 2 t 10) h)
+    let a : List ℕ = tableAt t (baseArrayOffset t) in
+    child-bytes a ligatureAttachOffsets (ligatureCount a) k (table-bytes t (baseArrayOffset t) h)
 
 -- ---- the anchors, by the number of rows that code found
-module _ (kind : Kind) (t : List ℕ) (k m : ℕ) (mark base : Slot) (rows : List ℕ) (is : rows ≡ rowTable kind t k) (columns : ℕ) (read : columns ≡ natAt 2 t 6)
+module _ (target : Target) (t : List ℕ) (k m : ℕ) (mark base : Slot) (rows : List ℕ) (is : rows ≡ rowTable target t k) (columns : ℕ) (read : columns ≡ markClassCount t)
     (found : Rows) (counted : found ≡ rowsOf rows columns) where
-  by-rows : anchorsFor kind t k m mark base ≡ withRows kind t k m mark base found
+  by-rows : anchorsFor target t k m mark base ≡ afterRows target t k m mark base found
   unfolding anchorsFor
-  by-rows = ap (withRows kind t k m mark base) (sym (counted ∙ ap (λ (l : List ℕ). rowsOf l columns) is ∙ ap (rowsOf (rowTable kind t k)) read))
+  by-rows = ap (afterRows target t k m mark base) (sym (counted ∙ ap (λ (l : List ℕ). rowsOf l columns) is ∙ ap (rowsOf (rowTable target t k)) read))
 
-  pub anchors-cut : found ≡ Absent → missing ≡ anchorsFor kind t k m mark base
-  anchors-cut e = sym (by-rows ∙ ap (withRows kind t k m mark base) e)
+  pub anchors-cut : found ≡ Absent → missing ≡ anchorsFor target t k m mark base
+  anchors-cut e = sym (by-rows ∙ ap (afterRows target t k m mark base) e)
 
-  pub anchors-rowless : (n : ℕ) → found ≡ Of n → n ≡ 0 → rowless kind ≡ anchorsFor kind t k m mark base
-  anchors-rowless n e z = sym (by-rows ∙ ap (withRows kind t k m mark base) (e ∙ ap Of z) ∙ go kind (markAt t m))
-    where
-      go : (x : Kind) (o : Option MarkSpot)
-          → (if noComponent x 0 then empty else withMark (rowTable x t k) 0 (markClassCount t) (rowFor x k 0 mark base) o) ≡ rowless x
-      go Base (some a) = rw (le-ltb k 0 (omega arith))
-      go Base none = refl
-      go Ligature o = refl
+  pub anchors-rowless : (n : ℕ) → found ≡ Of n → n ≡ 0 → rowless target ≡ anchorsFor target t k m mark base
+  anchors-rowless n e z = sym (by-rows ∙ ap (afterRows target t k m mark base) (e ∙ ap Of z))
 
-  pub anchors-with : (n : ℕ) → found ≡ Of n → (n ≡ 0 → ⊥) → (row : ℕ) → row ≡ rowFor kind k n mark base
-      → (off : ℕ) → off ≡ natAt 2 t 8 → (marks : List ℕ) → marks ≡ tableAt t off → (o : Option MarkSpot) → o ≡ markOf marks m
-      → withMark rows n columns row o ≡ anchorsFor kind t k m mark base
+  pub anchors-with : (n : ℕ) → found ≡ Of n → (n ≡ 0 → ⊥) → (row : ℕ) → row ≡ rowFor target k n mark base
+      → (off : ℕ) → off ≡ markArrayOffset t → (marks : List ℕ) → marks ≡ tableAt t off → (o : Option MarkAnchor) → o ≡ markOf marks m
+      → afterMark rows n columns row o ≡ anchorsFor target t k m mark base
   anchors-with n e z row is-row off read-off marks is-marks o is-o =
+      let some-rows : afterRows target t k m mark base (Of n) ≡ afterMark (rowTable target t k) n (markClassCount t) (rowFor target k n mark base) (markAt t m) = rw (ne-eqb n 0 z) in
       let there : o ≡ markAt t m = is-o ∙ ap (λ (l : List ℕ). markOf l m) (is-marks ∙ ap (tableAt t) read-off) in
-      ap (λ (l : List ℕ). withMark l n columns row o) is
-      ∙ ap (λ (c : ℕ). withMark (rowTable kind t k) n c row o) read
-      ∙ ap (λ (r : ℕ). withMark (rowTable kind t k) n (markClassCount t) r o) is-row
-      ∙ ap (withMark (rowTable kind t k) n (markClassCount t) (rowFor kind k n mark base)) there
-      ∙ sym (by-rows ∙ ap (withRows kind t k m mark base) e ∙ go kind)
-    where
-      go : (x : Kind)
-          → (if noComponent x n then empty else withMark (rowTable x t k) n (markClassCount t) (rowFor x k n mark base) (markAt t m))
-          ≡ withMark (rowTable x t k) n (markClassCount t) (rowFor x k n mark base) (markAt t m)
-      go Base = refl
-      go Ligature = rw (ne-eqb n 0 z)
+      ap (λ (l : List ℕ). afterMark l n columns row o) is
+      ∙ ap (λ (c : ℕ). afterMark (rowTable target t k) n c row o) read
+      ∙ ap (λ (r : ℕ). afterMark (rowTable target t k) n (markClassCount t) r o) is-row
+      ∙ ap (afterMark (rowTable target t k) n (markClassCount t) (rowFor target k n mark base)) there
+      ∙ sym (by-rows ∙ ap (afterRows target t k m mark base) e ∙ some-rows)

@@ -14,8 +14,8 @@ use Rattle.slots.specs.Fields.{flagOf}
 use Rattle.slots.specs.declared.fields.Flag.the-variants.{Seen, Mark, Multiplied}
 use Rattle.marks.specs.MarkPos.{baseIndex}
 use Rattle.marks.specs.Search.{accepted, goesOn, isCovered, isFirst, nearest, stopsAt}
-use Rattle.marks.specs.declared.subtable.Kind.{Kind}
-use Rattle.marks.specs.declared.subtable.Kind.the-variants.{Base, Ligature}
+use Rattle.marks.specs.declared.mark_pos.Target.{Target}
+use Rattle.marks.specs.declared.mark_pos.Target.the-variants.{Base, Ligature}
 
 -- ---- is a glyph the first of a multiple substitution?
 module _ (s : Slot) (u : Bool) (is-u : u ≡ flagOf Multiplied s) where
@@ -42,36 +42,36 @@ module _ (p s : Slot) {m : Bool} (is-m : m ≡ flagOf Mark p) where
       goes-next h is-k is-l = rw (← is-m, no-mark, ← is-u, multiplied, ← is-i, ← is-j, eq-eqb i j h, ← is-k, ← is-l)
 
 -- ---- may a mark attach to slot i?
-module _ (kind : Kind) (ss : List Slot) (i : ℕ) (f : Bool) (is-f : f ≡ isFirst (slot ss i)) where
-  pub accepted-first : f ≡ true → true ≡ accepted kind ss i
-  accepted-first h = go kind
+module _ (target : Target) (ss : List Slot) (i : ℕ) (f : Bool) (is-f : f ≡ isFirst (slot ss i)) where
+  pub accepted-first : f ≡ true → true ≡ accepted target ss i
+  accepted-first h = go target
     where
-      go : (k : Kind) → true ≡ accepted k ss i
+      go : (k : Target) → true ≡ accepted k ss i
       go Base = rw (← is-f, h)
       go Ligature = rw (← is-f, h)
 
   module _ (later : f ≡ false) where
-    pub accepted-ligature : kind ≡ Ligature → false ≡ accepted kind ss i
+    pub accepted-ligature : target ≡ Ligature → false ≡ accepted target ss i
     accepted-ligature e = rw (e, ← is-f, later)
 
-    pub accepted-start : kind ≡ Base → i ≡ 0 → true ≡ accepted kind ss i
+    pub accepted-start : target ≡ Base → i ≡ 0 → true ≡ accepted target ss i
     accepted-start e h = rw (e, ← is-f, later, eq-eqb i 0 h)
 
-    pub accepted-base : kind ≡ Base → (i ≡ 0 → ⊥) → (g : Bool) → g ≡ goesOn (slot ss (i - 1)) (slot ss i) → not g ≡ accepted kind ss i
+    pub accepted-base : target ≡ Base → (i ≡ 0 → ⊥) → (g : Bool) → g ≡ goesOn (slot ss (i - 1)) (slot ss i) → not g ≡ accepted target ss i
     accepted-base e h g is-g = rw (e, ← is-f, later, ne-eqb i 0 h, ← is-g)
 
 -- ---- does the search stop at slot i?
-module _ (kind : Kind) (t : List ℕ) (ss : List Slot) (i : ℕ) (s : Bool) (is-s : s ≡ flagOf Seen (slot ss i)) where
-  pub stops-unseen : s ≡ false → false ≡ stopsAt kind t ss i
+module _ (target : Target) (t : List ℕ) (ss : List Slot) (i : ℕ) (s : Bool) (is-s : s ≡ flagOf Seen (slot ss i)) where
+  pub stops-unseen : s ≡ false → false ≡ stopsAt target t ss i
   unfolding stopsAt
   stops-unseen h = rw (← is-s, h)
 
-  module _ (seen : s ≡ true) (a : Bool) (is-a : a ≡ accepted kind ss i) where
-    pub stops-accepted : a ≡ true → true ≡ stopsAt kind t ss i
+  module _ (seen : s ≡ true) (a : Bool) (is-a : a ≡ accepted target ss i) where
+    pub stops-accepted : a ≡ true → true ≡ stopsAt target t ss i
     unfolding stopsAt
     stops-accepted h = rw (← is-s, seen, ← is-a, h)
 
-    pub stops-covered : a ≡ false → (g : ℕ) → g ≡ slot ss i .glyph → (b : Bool) → b ≡ isCovered (baseIndex t g) → b ≡ stopsAt kind t ss i
+    pub stops-covered : a ≡ false → (g : ℕ) → g ≡ slot ss i .glyph → (b : Bool) → b ≡ isCovered (baseIndex t g) → b ≡ stopsAt target t ss i
     unfolding stopsAt
     stops-covered h g is-g b is-b = rw (← is-s, seen, ← is-a, h, ← is-g) is-b
 

@@ -3,32 +3,45 @@ use mathlib.Core.List.{List}
 use Prim.Native.Nat.{ℕ}
 use lib.IntN.{ℤ, pos, _-ℤ_}
 use Rattle.ints.specs.Choice.{if_then_else_}
-use Rattle.ints.specs.Saturating.{plus}
+use Rattle.ints.specs.Saturating.{satAdd}
 use Rattle.ints.specs.Scale.{scaled}
 use Rattle.slots.specs.Axis.{cross, main}
 use Rattle.slots.specs.Slot.{Slot}
 use Rattle.slots.specs.Line.{update}
 use Rattle.slots.specs.Fields.{attached, withMeasure}
-use Rattle.slots.specs.Parent.{cleared}
+use Rattle.slots.specs.Parent.{cleared, markType}
 use Rattle.slots.specs.declared.axis.Axis.{Axis}
 use Rattle.slots.specs.declared.axis.Direction.{Direction}
 use Rattle.slots.specs.declared.fields.Measure.the-variants.{Offset}
-use Rattle.tables.specs.Anchor.{Spot, coordinate}
-use Rattle.marks.specs.Plan.{Plan, stop, endless, hang, fits}
+use Rattle.tables.specs.Anchor.{Point, coordinate}
+use Rattle.answers.specs.Outcome.{Call}
+use Rattle.marks.specs.Plan.{Plan, stop, endless, hang, fits, planOf, planSaid}
+use Rattle.marks.specs.declared.mark_pos.Target.{Target}
 
 -- base anchor less mark anchor, scaled once
-abbrev pub between : ℕ → ℕ → Axis → Spot → Spot → ℤ
-between s u a base mark = scaled (coordinate a base -ℤ coordinate a mark) s u
+abbrev pub anchorDelta : ℕ → ℕ → Axis → Point → Point → ℤ
+anchorDelta s u a base mark = scaled (coordinate a base -ℤ coordinate a mark) s u
 
--- The mark hung on slot b: type 1, the chain, and both offsets replaced; across the line the base's walk is added.
-abbrev pub hung : ℕ → ℕ → Direction → ℕ → ℕ → Spot → Spot → ℤ → Slot → Slot
-hung s u d idx b base mark walk m =
-    attached 1 (pos b -ℤ pos idx)
-    (withMeasure Offset (cross d) (plus (between s u (cross d) base mark) walk) (withMeasure Offset (main d) (between s u (main d) base mark) m))
+-- The mark hung on slot b: type, chain, and both offsets replaced. Across the line the base's walk is added now: a
+-- cursive base has only its offset from its own parent, and the sum along its chain is where it will be drawn. So
+-- finishing doesn't add the base's cross offset to a mark, as older HarfBuzz did: it would count twice.
+abbrev pub markAttached : ℕ → ℕ → Direction → ℕ → ℕ → Point → Point → ℤ → Slot → Slot
+markAttached s u d idx b base mark walk m =
+    attached markType (pos b -ℤ pos idx)
+    (withMeasure Offset (cross d) (satAdd (anchorDelta s u (cross d) base mark) walk)
+    (withMeasure Offset (main d) (anchorDelta s u (main d) base mark) m))
 
 -- the slots that a plan leaves: a mark whose base is too far loses its chain
 abbrev pub planned : ℕ → ℕ → Direction → ℕ → Plan → List Slot → List Slot
 planned s u d idx (stop hazards) ss = ss
 planned s u d idx endless ss = ss
 planned s u d idx (hang b base mark walk) ss =
-    if fits idx b then update idx (hung s u d idx b base mark walk) ss else cleared ss idx
+    if fits idx b then update idx (markAttached s u d idx b base mark walk) ss else cleared ss idx
+
+-- attachment of the mark in slot i, to what the target says
+abbrev pub markAttachment : (target : Target) (t : List ℕ) (d : Direction) (s u i : ℕ) → Call
+markAttachment target t d s u i =
+    record {
+      says = λ ss. planSaid i (planOf target (cross d) t ss i);
+      leaves = λ ss. planned s u d i (planOf target (cross d) t ss i) ss;
+    }

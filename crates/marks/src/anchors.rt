@@ -1,6 +1,9 @@
 // The anchors by which a mark attaches: its own, from the mark array, and the base's, from a row for its class.
 use crate::component::component_index;
-use crate::subtable::Kind;
+use crate::mark_pos::BASE_ARRAY_OFFSET;
+use crate::mark_pos::MARK_ARRAY_OFFSET;
+use crate::mark_pos::MARK_CLASS_COUNT;
+use crate::mark_pos::Target;
 use ints::big_endian::read_u16;
 use slots::shape::Shape;
 use tables::anchor::Anchor;
@@ -12,69 +15,26 @@ use tables::part::table_at;
 ghost use mathlib.Core.Bool.{true};
 ghost use mathlib.Core.Path.{_≡_};
 ghost use Prim.Native.Nat.{_<_};
-ghost use Rattle.slots.specs.Line.{Inside, slot, slots};
-ghost use Rattle.tables.specs.Anchor.{AnchorNear, Near16, spot, spotOf};
-ghost use Rattle.tables.specs.MarkArray.{MarkNear, markSpot};
-ghost use Rattle.marks.specs.Meant.{anchorsOf, FoundNear};
-ghost use Rattle.marks.specs.MarkPos.{anchorsFor, marksGood, rowFor, rowless, rowTable, withBase, withMark};
+ghost use Rattle.slots.specs.code.Shape.{Inside};
+ghost use Rattle.slots.specs.Line.{slot, slots};
+ghost use Rattle.tables.specs.code.Meant.{AnchorNear, Near16, anchorPoint, pointOf, MarkNear, markAnchor};
+ghost use Rattle.marks.specs.Anchors.{anchorsFor, rowFor, rowless, rowTable, afterBase, afterMark};
+ghost use Rattle.marks.specs.MarkPos.{marksGood};
+ghost use Rattle.marks.specs.code.Meant.{anchorsOf, AnchorsNear};
 
-pub enum Found {
-    // The base's anchor, and the mark's.
-    Both(Point, Point),
+// The fields of a LigatureArray.
+const LIGATURE_COUNT: usize = 0;
+
+const LIGATURE_ATTACH_OFFSETS: usize = 2;
+
+// The anchors that were found.
+pub enum Anchors {
+    // Both: the base's, and the mark's.
+    Both { base: Point, mark: Point },
+    // One of them is missing, or a table on the way to it.
     Missing,
-    // A ligature without components.
+    // The ligature has no component.
     Empty,
-}
-
-// The table with the anchor rows: the base array, or the components of ligature k; empty where there is none.
-fn row_table<'a>(t: &'a [u8], kind: Kind, k: usize) -> &'a [u8]
-    requires { ⌜ marksGood (now t) ≡ true ⌝ }
-    ensures { λ r. ⌜ now r ≡ rowTable kind (now (t .entry)) k ⌝ }
-{
-    let array = table_at(t, read_u16(t, 10) as usize);
-    match kind {
-        Kind::Base => array,
-        Kind::Ligature => {
-            if array.len() < 2 {
-                return &array[..0];
-            }
-            child_of(array, 2, read_u16(array, 0) as usize, k)
-        }
-    }
-}
-
-// The row of base k, or of the mark's component in a ligature of n.
-fn row_for(line: &[u8], shape: Shape, kind: Kind, k: usize, n: usize, idx: usize, b: usize) -> usize
-    requires { ⌜ Inside shape (now line) idx × Inside shape (now line) b × (0 < n) ⌝ }
-    ensures { λ r. ⌜ r ≡ rowFor kind k n (slot (slots shape (now (line .entry))) idx) (slot (slots shape (now (line .entry))) b) ⌝ }
-{
-    match kind {
-        Kind::Base => k,
-        Kind::Ligature => component_index(line, shape, n, idx, b),
-    }
-}
-
-fn with_base(mark: Point, base: Anchor) -> Found
-    requires { ⌜ Near16 mark × AnchorNear base ⌝ }
-    ensures { λ r. ⌜ (anchorsOf r ≡ withBase (spotOf mark) (spot base)) × FoundNear r ⌝ }
-{
-    match base {
-        Anchor::At(p) => Found::Both(p, mark),
-        Anchor::Absent => Found::Missing,
-    }
-}
-
-fn with_mark(rows: &[u8], n: usize, columns: usize, row: usize, mark: Mark) -> Found
-    requires { ⌜ (n < 65536) × (columns < 65536) × MarkNear mark ⌝ }
-    ensures { λ r. ⌜ (anchorsOf r ≡ withMark (now (rows .entry)) n columns row (markSpot mark)) × FoundNear r ⌝ }
-{
-    match mark {
-        Mark::Of(class, p) => with_base(
-            p,
-            tables::anchor_rows::anchor_in(rows, n, columns, row, class as usize),
-        ),
-        Mark::Absent => Found::Missing,
-    }
 }
 
 // The anchors by which mark m, in slot idx, attaches to base k, in slot b.
@@ -82,36 +42,103 @@ pub fn find_anchors(
     line: &[u8],
     shape: Shape,
     t: &[u8],
-    kind: Kind,
+    target: Target,
     k: usize,
     m: usize,
     idx: usize,
     b: usize,
-) -> Found
+) -> Anchors
     requires { ⌜ Inside shape (now line) idx × Inside shape (now line) b × (marksGood (now t) ≡ true) ⌝ }
-    ensures { λ r. ⌜ (anchorsOf r ≡ anchorsFor kind (now (t .entry)) k m (slot (slots shape (now (line .entry))) idx) (slot (slots shape (now (line .entry))) b)) × FoundNear r ⌝ }
+    ensures { λ r. ⌜ (anchorsOf r ≡ anchorsFor target (now (t .entry)) k m (slot (slots shape (now (line .entry))) idx)
+        (slot (slots shape (now (line .entry))) b)) × AnchorsNear r ⌝ }
 {
-    let rows = row_table(t, kind, k);
-    let columns = read_u16(t, 6) as usize;
+    let rows = row_table(t, target, k);
+    let columns = read_u16(t, MARK_CLASS_COUNT) as usize;
     match tables::anchor_rows::rows_of(rows, columns) {
-        Rows::Absent => Found::Missing,
+        Rows::Absent => Anchors::Missing,
         Rows::Of(n) => {
             if n == 0 {
-                return no_rows(kind);
+                return no_rows(target);
             }
-            let row = row_for(line, shape, kind, k, n, idx, b);
-            let marks = table_at(t, read_u16(t, 8) as usize);
-            with_mark(rows, n, columns, row, tables::mark_array::mark_of(marks, m))
+            let row = row_for(line, shape, target, k, n, idx, b);
+            let marks = table_at(t, read_u16(t, MARK_ARRAY_OFFSET) as usize);
+            after_mark(rows, n, columns, row, tables::mark_array::mark_of(marks, m))
         }
     }
 }
 
-// A table without rows: a ligature has no component, a base array has no base.
-fn no_rows(kind: Kind) -> Found
-    ensures { λ r. ⌜ (anchorsOf r ≡ rowless kind) × FoundNear r ⌝ }
+// The table with the anchor rows: the base array, or the components of ligature k; empty where there is none.
+fn row_table<'a>(t: &'a [u8], target: Target, k: usize) -> &'a [u8]
+    requires { ⌜ marksGood (now t) ≡ true ⌝ }
+    ensures { λ r. ⌜ now r ≡ rowTable target (now (t .entry)) k ⌝ }
 {
-    match kind {
-        Kind::Base => Found::Missing,
-        Kind::Ligature => Found::Empty,
+    let array = table_at(t, read_u16(t, BASE_ARRAY_OFFSET) as usize);
+    match target {
+        Target::Base => array,
+        Target::Ligature => {
+            if array.len() < LIGATURE_ATTACH_OFFSETS {
+                return &array[..0];
+            }
+            let count = read_u16(array, LIGATURE_COUNT) as usize;
+            child_of(array, LIGATURE_ATTACH_OFFSETS, count, k)
+        }
+    }
+}
+
+// The row of base k, or of the mark's component in a ligature of n.
+fn row_for(
+    line: &[u8],
+    shape: Shape,
+    target: Target,
+    k: usize,
+    n: usize,
+    idx: usize,
+    b: usize,
+) -> usize
+    requires { ⌜ Inside shape (now line) idx × Inside shape (now line) b × (0 < n) ⌝ }
+    ensures { λ r. ⌜ r ≡ rowFor target k n (slot (slots shape (now (line .entry))) idx)
+        (slot (slots shape (now (line .entry))) b) ⌝ }
+{
+    match target {
+        Target::Base => k,
+        Target::Ligature => component_index(line, shape, n, idx, b),
+    }
+}
+
+// A table without rows: a ligature has no component, a base array has no base.
+fn no_rows(target: Target) -> Anchors
+    ensures { λ r. ⌜ (anchorsOf r ≡ rowless target) × AnchorsNear r ⌝ }
+{
+    match target {
+        Target::Base => Anchors::Missing,
+        Target::Ligature => Anchors::Empty,
+    }
+}
+
+// There are rows: the mark has an anchor and a class, by which the base's is looked up, or not.
+fn after_mark(rows: &[u8], n: usize, columns: usize, row: usize, mark: Mark) -> Anchors
+    requires { ⌜ (n < 65536) × (columns < 65536) × MarkNear mark ⌝ }
+    ensures { λ r. ⌜ (anchorsOf r ≡ afterMark (now (rows .entry)) n columns row (markAnchor mark)) × AnchorsNear r ⌝ }
+{
+    match mark {
+        Mark::Of { class, anchor } => after_base(
+            anchor,
+            tables::anchor_rows::anchor_in(rows, n, columns, row, class as usize),
+        ),
+        Mark::Absent => Anchors::Missing,
+    }
+}
+
+// The mark has an anchor: so has the base, or not.
+fn after_base(mark: Point, base: Anchor) -> Anchors
+    requires { ⌜ Near16 mark × AnchorNear base ⌝ }
+    ensures { λ r. ⌜ (anchorsOf r ≡ afterBase (pointOf mark) (anchorPoint base)) × AnchorsNear r ⌝ }
+{
+    match base {
+        Anchor::At(p) => Anchors::Both {
+            base: p,
+            mark: mark,
+        },
+        Anchor::Absent => Anchors::Missing,
     }
 }

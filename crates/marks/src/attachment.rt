@@ -1,11 +1,11 @@
 // Hanging a mark on a slot (`attach_mark`), and the core.
-use crate::decision::Decision;
-use crate::decision::decide;
-use crate::subtable::Kind;
+use crate::mark_pos::Target;
+use crate::plan::Plan;
+use crate::plan::plan_of;
 use answers::Answer;
 use answers::Hazards;
 use answers::Refusal;
-use answers::break_range;
+use answers::unsafe_to_break;
 use ints::big_endian::Signed;
 use ints::saturating::difference;
 use ints::saturating::sat_add;
@@ -14,38 +14,70 @@ use slots::axis::Axis;
 use slots::axis::Direction;
 use slots::fields::ByteField;
 use slots::fields::Measure;
+use slots::layout::CHAIN_LIMIT;
+use slots::layout::MARK_TYPE;
 use slots::shape::Shape;
 use tables::anchor::Point;
 use tables::anchor::coordinate_on;
 ghost use mathlib.Core.Bool.{true};
 ghost use mathlib.Core.List.{[], _∷_};
 ghost use mathlib.Core.Path.{_≡_};
-ghost use Prim.Native.Nat.{_+_, _-_, _≤_, _<_};
-ghost use Rattle.ints.specs.Scale.{InScale};
-ghost use Rattle.ints.specs.Signed.{val};
-ghost use Rattle.slots.specs.Axis.{cross};
-ghost use Rattle.slots.specs.Line.{Inside, slots, update};
-ghost use Rattle.tables.specs.Anchor.{Near16, spotOf};
-ghost use Rattle.answers.specs.Outcome.{Effect};
-ghost use Rattle.answers.specs.Said.{applied, break, said};
-ghost use Rattle.marks.specs.Attachment.{between, hung, planned};
+ghost use Prim.Native.Nat.{_+_, _<_};
+ghost use Rattle.ints.specs.code.Scale.{InScale};
+ghost use Rattle.ints.specs.code.Signed.{val};
+ghost use Rattle.slots.specs.code.Shape.{HasNext, Inside};
+ghost use Rattle.slots.specs.Line.{slots, update};
+ghost use Rattle.tables.specs.code.Meant.{Near16, pointOf};
+ghost use Rattle.answers.specs.code.Effect.{MadeOn};
+ghost use Rattle.answers.specs.Said.{applied, unsafeToBreak, said};
+ghost use Rattle.marks.specs.Attachment.{markAttachment, anchorDelta, markAttached};
 ghost use Rattle.marks.specs.MarkPos.{marksGood};
-ghost use Rattle.marks.specs.Plan.{planOf, planSaid};
+ghost use Rattle.marks.specs.code.Meant.{InReach};
 
-// Base anchor less mark anchor, scaled once.
-fn between_anchors(base: Point, mark: Point, a: Axis, s: u32, u: u32) -> Signed
-    requires { ⌜ Near16 base × Near16 mark × InScale s u ⌝ }
-    ensures { λ r. ⌜ val r ≡ between s u a (spotOf base) (spotOf mark) ⌝ }
+// 2^32: -n is stored as 2^32 - n.
+const TWO_TO_32: usize = 4294967296;
+
+// The core: decides what is to be done for the mark in slot idx, and hangs it, or leaves the line as it was. Whatever a
+// public call refuses, but for refusal 7, has been refused before. A mark whose base is too far for a chain loses the
+// chain it had and is passed, as in HarfBuzz; in a line of 1,024 slots none is.
+pub fn apply(
+    line: &mut [u8],
+    shape: Shape,
+    t: &[u8],
+    target: Target,
+    d: Direction,
+    s: u32,
+    u: u32,
+    idx: usize,
+) -> Answer
+    requires { ⌜ Inside shape (now line) idx × InScale s u × (marksGood (now t) ≡ true) ⌝ }
+    ensures { λ r. ⌜ MadeOn (markAttachment target (now (t .entry)) d s u idx)
+        (slots shape (now (line .entry))) (said r) (slots shape (now (line .exit))) ⌝ }
 {
-    scale(
-        difference(coordinate_on(base, a), coordinate_on(mark, a)),
-        s,
-        u,
-    )
+    let plan = plan_of(line, shape, t, target, slots::axis::cross_axis(d), idx);
+    match plan {
+        Plan::Stop(hazards) => Answer::Declined { hazards: hazards },
+        Plan::Endless => Answer::Refused(Refusal::Endless),
+        Plan::Hang {
+            base_slot,
+            base,
+            mark,
+            walk,
+        } => {
+            if CHAIN_LIMIT < idx - base_slot {
+                slots::fields::set_chain(line, shape, idx, 0);
+                return passed(idx, base_slot, false);
+            }
+            attach_mark(line, shape, d, s, u, idx, base_slot, base, mark, walk);
+            passed(idx, base_slot, true)
+        }
+    }
 }
 
-// The mark in slot idx hangs on slot b: type, chain, and both offsets replaced. Across the line the base's walk is added here, and not when finishing.
-pub fn hang(
+// The mark in slot idx hangs on slot b: type, chain, and both offsets replaced. Across the line the base's walk is
+// added now: a cursive base has only its offset from its own parent, and the sum along its chain is where it will be
+// drawn. So finishing doesn't add the base's cross offset to a mark, as older HarfBuzz did: it would count twice.
+fn attach_mark(
     line: &mut [u8],
     shape: Shape,
     d: Direction,
@@ -57,62 +89,47 @@ pub fn hang(
     mark: Point,
     walk: Signed,
 )
-    requires { ⌜ Inside shape (now line) idx × (b < idx) × (idx - b ≤ 32768) × InScale s u × Near16 base × Near16 mark ⌝ }
-    ensures { λ _. ⌜ slots shape (now (line .exit)) ≡ update idx (hung s u d idx b (spotOf base) (spotOf mark) (val walk)) (slots shape (now (line .entry))) ⌝ }
+    requires { ⌜ Inside shape (now line) idx × (b < idx) × InReach idx b × InScale s u × Near16 base × Near16 mark ⌝ }
+    ensures { λ _. ⌜ slots shape (now (line .exit))
+        ≡ update idx (markAttached s u d idx b (pointOf base) (pointOf mark) (val walk))
+        (slots shape (now (line .entry))) ⌝ }
 {
     let along = slots::axis::main_axis(d);
     let across = slots::axis::cross_axis(d);
-    let cross = sat_add(between_anchors(base, mark, across, s, u), walk);
+    let cross = sat_add(anchor_delta(base, mark, across, s, u), walk);
     slots::fields::set(
         line,
         shape,
         idx,
         Measure::Offset,
         along,
-        between_anchors(base, mark, along, s, u),
+        anchor_delta(base, mark, along, s, u),
     );
     slots::fields::set(line, shape, idx, Measure::Offset, across, cross);
-    slots::fields::set_chain(line, shape, idx, (4294967296 - (idx - b)) as u32);
-    slots::fields::set_byte(line, shape, idx, ByteField::AttachType, 1);
+    slots::fields::set_chain(line, shape, idx, (TWO_TO_32 - (idx - b)) as u32);
+    slots::fields::set_byte(line, shape, idx, ByteField::AttachType, MARK_TYPE);
+}
+
+// Base anchor less mark anchor, scaled once.
+fn anchor_delta(base: Point, mark: Point, a: Axis, s: u32, u: u32) -> Signed
+    requires { ⌜ Near16 base × Near16 mark × InScale s u ⌝ }
+    ensures { λ r. ⌜ val r ≡ anchorDelta s u a (pointOf base) (pointOf mark) ⌝ }
+{
+    scale(
+        difference(coordinate_on(base, a), coordinate_on(mark, a)),
+        s,
+        u,
+    )
 }
 
 // The mark was passed: break from what was found up to it.
 fn passed(idx: usize, b: usize, attached: bool) -> Answer
-    requires { ⌜ (b < idx) × (idx < 18446744073709551615) ⌝ }
-    ensures { λ r. ⌜ said r ≡ applied (idx + 1) (break b (idx + 1) ∷ []) attached ⌝ }
+    requires { ⌜ (b < idx) × HasNext idx ⌝ }
+    ensures { λ r. ⌜ said r ≡ applied (idx + 1) (unsafeToBreak b (idx + 1) ∷ []) attached ⌝ }
 {
     Answer::Applied {
         next: idx + 1,
-        hazards: Hazards::One(break_range(b, idx + 1)),
+        hazards: Hazards::One(unsafe_to_break(b, idx + 1)),
         attached: attached,
-    }
-}
-
-// The core: everything has been checked. A mark whose base is too far for a chain of 16 bits is left unattached.
-pub fn attach(
-    line: &mut [u8],
-    shape: Shape,
-    t: &[u8],
-    kind: Kind,
-    d: Direction,
-    s: u32,
-    u: u32,
-    idx: usize,
-) -> Answer
-    requires { ⌜ Inside shape (now line) idx × InScale s u × (marksGood (now t) ≡ true) ⌝ }
-    ensures { λ r. ⌜ Effect (slots shape (now (line .entry))) (planSaid idx (planOf kind (cross d) (now (t .entry)) (slots shape (now (line .entry))) idx)) (planned s u d idx (planOf kind (cross d) (now (t .entry)) (slots shape (now (line .entry))) idx) (slots shape (now (line .entry)))) (said r) (slots shape (now (line .exit))) ⌝ }
-{
-    let decision = decide(line, shape, t, kind, slots::axis::cross_axis(d), idx);
-    match decision {
-        Decision::Stop(hazards) => Answer::Declined { hazards: hazards },
-        Decision::Endless => Answer::Refused(Refusal::Endless),
-        Decision::Hang(b, base, mark, walk) => {
-            if 32768 < idx - b {
-                slots::fields::set_chain(line, shape, idx, 0);
-                return passed(idx, b, false);
-            }
-            hang(line, shape, d, s, u, idx, b, base, mark, walk);
-            passed(idx, b, true)
-        }
     }
 }

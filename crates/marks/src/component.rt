@@ -3,13 +3,16 @@ use slots::fields::ByteField;
 use slots::shape::Shape;
 ghost use mathlib.Core.Path.{_≡_};
 ghost use Prim.Native.Nat.{_<_};
-ghost use Rattle.slots.specs.Line.{Inside, slot, slots};
+ghost use Rattle.slots.specs.code.Shape.{Inside};
+ghost use Rattle.slots.specs.Line.{slot, slots};
 ghost use Rattle.marks.specs.Component.{componentIndex};
 
-// A ligature's component for the mark in slot idx, counted from 0: its own, or the last.
+// A ligature's component for the mark in slot idx, counted from 0: its own, where the mark comes from the same
+// ligature, or the last.
 pub fn component_index(line: &[u8], shape: Shape, n: usize, idx: usize, b: usize) -> usize
     requires { ⌜ Inside shape (now line) idx × Inside shape (now line) b × (0 < n) ⌝ }
-    ensures { λ r. ⌜ (r ≡ componentIndex n (slot (slots shape (now (line .entry))) idx) (slot (slots shape (now (line .entry))) b)) × (r < n) ⌝ }
+    ensures { λ r. ⌜ (r ≡ componentIndex n (slot (slots shape (now (line .entry))) idx)
+        (slot (slots shape (now (line .entry))) b)) × (r < n) ⌝ }
 {
     let id = slots::fields::get_byte(line, shape, b, ByteField::LigatureId);
     if id == 0 {

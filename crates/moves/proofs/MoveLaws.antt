@@ -12,15 +12,17 @@ use lib.Dec.{eqb}
 use lib.IntN.{ℤ}
 use lib.ListN.{length, take, drop, drop-of-length-le, length-append, length-drop}
 use lib.Seq.{drop-at, drop-cons, drop-drop, length-take-le, sets, sets-eq, take-add, take-all, take-at, take-suc, take-suc-set}
-use Rattle.ints.specs.BigEndian.{Bytes, digits, natAt, withNat}
-use Rattle.ints.specs.Signed.{intAt, pattern, val, withInt}
+use Rattle.ints.specs.BigEndian.{AllBytes, digits, natAt, withNat}
+use Rattle.ints.specs.Signed.{intAt, pattern, withInt}
+use Rattle.ints.specs.code.Signed.{val}
 use Rattle.ints.proofs.BigEndianLaws.{bytes-drop, bytes-take, natAt-fits, natAt-withNat}
 use Rattle.ints.proofs.SignedLaws.{digits-intAt, pattern-signed, signed-same}
 use Rattle.ints.proofs.TestLaws.{and-left, and-right}
 use Rattle.slots.specs.Slot.{Slot, bytesOf, clusteredSize, noSlot, plainBytes, slotOf, slotSize}
-use Rattle.slots.specs.Line.{bytes, Inside, slot, slots}
+use Rattle.slots.specs.Line.{bytes, slot, slots}
+use Rattle.slots.specs.code.Shape.{Inside}
 use Rattle.slots.specs.Fields.{withCluster}
-use Rattle.slots.specs.Clusters.{isNumberedFrom, numberedFrom}
+use Rattle.slots.specs.Numbered.{isNumberedFrom, numberedFrom}
 use Rattle.slots.specs.declared.shape.Shape.{Shape}
 use Rattle.slots.proofs.Cells.{by-cells, cells}
 use Rattle.slots.proofs.LineLaws.{lent, lentLength, length-slots, line-get, line-put}
@@ -31,7 +33,7 @@ abbrev pub copied : ℕ → List ℕ → List ℕ → List ℕ
 copied k p t = take k p ++ drop k t
 
 -- w bytes more: a number that was read there in p, and written
-pub copy-more : (w k : ℕ) (p t : List ℕ) (z : ℤ) → Bytes p → k + w ≤ length p → k + w ≤ length t → z ≡ intAt w p k
+pub copy-more : (w k : ℕ) (p t : List ℕ) (z : ℤ) → AllBytes p → k + w ≤ length p → k + w ≤ length t → z ≡ intAt w p k
     → withInt w (copied k p t) k z ≡ copied (k + w) p t
 unfolding withInt withNat
 copy-more w k p t z b hp ht e =
@@ -97,13 +99,13 @@ pub numbered-at : (i : ℕ) (ss : List Slot) → i < length ss → slot (numbere
 numbered-at i ss h = numbered-from 0 i ss h ∙ ap (λ (n : ℕ). withCluster n (slot ss i)) (zero-add i)
 
 -- ---- a search for a slot whose cluster is not its number, none of them before slot i: code reads n at 24 in the lent bytes of slot i
-module _ (w : Shape) (l : List ℕ) (i : ℕ) (h : Inside w l i) (b : Bytes l) (n : ℕ) (lt : n < 4294967296) (e : val n ≡ intAt 4 (lent w l i) slotSize) where
+module _ (w : Shape) (l : List ℕ) (i : ℕ) (h : Inside w l i) (b : AllBytes l) (n : ℕ) (lt : n < 4294967296) (e : val n ≡ intAt 4 (lent w l i) slotSize) where
   -- n is its cluster
   cluster-get : slot (slots w l) i .cluster ≡ n
   unfolding slotOf intAt
   cluster-get =
       let q : List ℕ = lent w l i in
-      let bytes-in : Bytes q = bytes-take (lentLength (w .size) i) (drop (i * w .size) l) (bytes-drop (i * w .size) l b) in
+      let bytes-in : AllBytes q = bytes-take (lentLength (w .size) i) (drop (i * w .size) l) (bytes-drop (i * w .size) l b) in
       sym (signed-same 4 n (natAt 4 q slotSize) lt (natAt-fits 4 q slotSize bytes-in) e ∙ ap (λ (s : Slot). s .cluster) (line-get w l i h))
 
   -- there is a slot i

@@ -9,8 +9,8 @@ use Rattle.slots.specs.declared.axis.Direction.{Direction}
 use Rattle.values.specs.Format.{recordAt, recordLength}
 use Rattle.values.specs.Value.{valued, worked}
 use Rattle.answers.specs.Said.{Range, Said, declined}
-use Rattle.answers.specs.Outcome.{Effect, slotsAfter}
-use Rattle.pair.specs.PairPos.{format1, format2}
+use Rattle.answers.specs.code.Effect.{Effect, slotsAfter}
+use Rattle.pair.specs.PairPos.{valueFormat1, valueFormat2}
 use Rattle.pair.specs.Plan.{Plan, adjust, stop}
 use Rattle.pair.specs.Adjustment.{eitherWorked, firstRecord, hasSecond, secondRecord, pairSaid, planned, planSaid}
 
@@ -22,19 +22,19 @@ both-same : (s u : ℕ) (d : Direction) (r₁ q₁ r₂ q₂ : List ℕ) (f₁ g
 both-same s u d r₁ q₁ r₂ q₂ f₁ g₁ f₂ g₂ a₁ a₂ b₁ b₂ i j ss mid end w₁ w₂ p q v w = (cc, cc)
 
 -- the two records, one after the other: f₁ and f₂ are the formats as code reads them, r₁ and r₂ the records, k the length of the first
-pub both-applied : (s u : ℕ) (d : Direction) (t table : List ℕ) (at i j : ℕ) (ss : List Slot) {f₁ f₂ k : ℕ} {r₁ r₂ : List ℕ} → f₁ ≡ format1 t → f₂ ≡ format2 t
+pub both-applied : (s u : ℕ) (d : Direction) (t table : List ℕ) (at i j : ℕ) (ss : List Slot) {f₁ f₂ k : ℕ} {r₁ r₂ : List ℕ} → f₁ ≡ valueFormat1 t → f₂ ≡ valueFormat2 t
     → k ≡ recordLength f₁ → r₁ ≡ recordAt table at f₁ → r₂ ≡ recordAt table (at + k) f₂ → {mid end : List Slot} {w₁ w₂ : Bool}
     → (mid ≡ update i (valued s u d r₁ f₁) ss) × (w₁ ≡ worked d r₁ f₁) → (end ≡ update j (valued s u d r₂ f₂) mid) × (w₂ ≡ worked d r₂ f₂)
     → (end ≡ planned s u d t i (adjust table at j) ss) × (w₁ || w₂ ≡ eitherWorked d t table at)
 both-applied s u d t table at i j ss {f₁} {f₂} {k} {r₁} {r₂} e₁ e₂ len first second {mid} {end} {w₁} {w₂} p q =
-    both-same s u d r₁ (firstRecord t table at) r₂ (secondRecord t table at) f₁ (format1 t) f₂ (format2 t) first-is second-is e₁ e₂ i j ss mid end w₁ w₂
+    both-same s u d r₁ (firstRecord t table at) r₂ (secondRecord t table at) f₁ (valueFormat1 t) f₂ (valueFormat2 t) first-is second-is e₁ e₂ i j ss mid end w₁ w₂
     (p .0) (q .0) (p .1) (q .1)
   where
     first-is : r₁ ≡ firstRecord t table at
     first-is = first ∙ ap (recordAt table at) e₁
 
     second-is : r₂ ≡ secondRecord t table at
-    second-is = second ∙ ap (λ (n : ℕ). recordAt table (at + n) f₂) (len ∙ ap recordLength e₁) ∙ ap (recordAt table (at + recordLength (format1 t))) e₂
+    second-is = second ∙ ap (λ (n : ℕ). recordAt table (at + n) f₂) (len ∙ ap recordLength e₁) ∙ ap (recordAt table (at + recordLength (valueFormat1 t))) e₂
 
 -- ---- what a plan leaves
 module _ (s u : ℕ) (d : Direction) (t : List ℕ) (idx : ℕ) (ss : List Slot) (plan : Plan) where

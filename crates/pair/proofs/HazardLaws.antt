@@ -11,14 +11,14 @@ use Rattle.slots.specs.Line.{slot}
 use Rattle.slots.specs.declared.axis.Direction.{Direction}
 use Rattle.tables.specs.Header.{posFormat}
 use Rattle.tables.specs.declared.coverage.Covered.{Covered}
-use Rattle.tables.specs.declared.coverage.Covered.the-variants.{At, Not}
-use Rattle.answers.specs.Hazards.{FewHazards}
+use Rattle.tables.specs.declared.coverage.Covered.the-variants.{Index, Not}
+use Rattle.answers.specs.theorems.Hazards.{FewHazards}
 use Rattle.answers.specs.declared.Neighbour.{Neighbour}
-use Rattle.answers.specs.declared.Neighbour.the-variants.{At as Named, Missing}
+use Rattle.answers.specs.declared.Neighbour.the-variants.{Named, Missing}
 use Rattle.pair.specs.Adjustment.{eitherWorked, hasSecond, pairSaid, planSaid}
 use Rattle.pair.specs.PairPos.{classRecord, firstClass, class1Count, firstIndex, pairLength, pairSet, secondClass, class2Count}
 use Rattle.pair.specs.PairSet.{probe}
-use Rattle.pair.specs.Plan.{Plan, adjust, fromClasses, fromCovered, fromNeighbour, fromProbe, fromSet, planOf}
+use Rattle.pair.specs.Plan.{Plan, adjust, afterClasses, afterCovered, afterNeighbour, afterProbe, afterSet, planOf}
 use Rattle.pair.specs.declared.pair_set.Probe.{Probe}
 use Rattle.pair.specs.declared.pair_set.Probe.the-variants.{Found, Nothing, Cut}
 
@@ -35,25 +35,25 @@ module _ (d : Direction) (t : List ℕ) (ss : List Slot) (idx : ℕ) where
       go true = omega arith
       go false = omega arith
 
-  probes : (second : ℕ) (set : List ℕ) (found : Probe) → FewHazards (planSaid d t idx (fromProbe idx second set found))
+  probes : (second : ℕ) (set : List ℕ) (found : Probe) → FewHazards (planSaid d t idx (afterProbe idx second set found))
   probes second set (Found at) = adjusts set (at + 2) second
   probes second set Nothing = omega arith
   probes second set Cut = omega arith
 
-  sets : (second g : ℕ) (set : List ℕ) → FewHazards (planSaid d t idx (fromSet t idx second g set))
+  sets : (second g : ℕ) (set : List ℕ) → FewHazards (planSaid d t idx (afterSet t idx second g set))
   sets second g set = either (ltb (length set) 2) _ _ (omega arith) (probes second set (probe set (2 + pairLength t) g))
 
-  classes : (second c₁ c₂ : ℕ) → FewHazards (planSaid d t idx (fromClasses t idx second c₁ c₂))
+  classes : (second c₁ c₂ : ℕ) → FewHazards (planSaid d t idx (afterClasses t idx second c₁ c₂))
   classes second c₁ c₂ = either (ltb c₁ (class1Count t) && (ltb c₂ (class2Count t) && leb (classRecord t c₁ c₂ + pairLength t) (length t))) _ _
       (adjusts t (classRecord t c₁ c₂) second) (omega arith)
 
-  neighbour : (k : ℕ) (n : Neighbour) → FewHazards (planSaid d t idx (fromNeighbour t ss idx k n))
+  neighbour : (k : ℕ) (n : Neighbour) → FewHazards (planSaid d t idx (afterNeighbour t ss idx k n))
   neighbour k (Named second) = either (eqb (posFormat t) 1) _ _ (sets second (slot ss second .glyph) (pairSet t k))
       (classes second (firstClass t (slot ss idx .glyph)) (secondClass t (slot ss second .glyph)))
   neighbour k (Missing e) = omega arith
 
-  covered : (n : Neighbour) (c : Covered) → FewHazards (planSaid d t idx (fromCovered t ss idx n c))
-  covered n (At k) = neighbour k n
+  covered : (n : Neighbour) (c : Covered) → FewHazards (planSaid d t idx (afterCovered t ss idx n c))
+  covered n (Index k) = neighbour k n
   covered n Not = omega arith
 
   pub few : (n : Neighbour) → FewHazards (planSaid d t idx (planOf t ss idx n))

@@ -14,7 +14,8 @@ use Rattle.ints.specs.BigEndian.{natAt}
 use Rattle.ints.proofs.TestLaws.{and-right}
 use Rattle.tables.specs.Spans.{Span}
 use Rattle.tables.proofs.SpansLaws.{Apart, Between, at-start, go-down, go-up, row-in, side}
-use Rattle.pair.specs.PairSet.{Ascending, firstWith, foundAt, middle, plain, probe, probeIn, recordPlace, secondGlyph, whole}
+use Rattle.pair.specs.theorems.PlainReading.{Ascending, firstWith, foundAt, plain, whole}
+use Rattle.pair.specs.PairSet.{middle, probe, probeIn, pairValueRecord, secondGlyph}
 use Rattle.pair.specs.declared.pair_set.Probe.{Probe}
 use Rattle.pair.specs.declared.pair_set.Probe.the-variants.{Found, Nothing}
 use Rattle.pair.proofs.PairSetLaws.{probe-down, probe-hit, probe-over, probe-up}
@@ -31,7 +32,7 @@ told-back none = refl
 module _ (set : List ℕ) (size g : ℕ) where
   -- ---- the plain reading of the n records from k on: record k + j is the first that has the glyph, or none has it
   first-at : (n k j : ℕ) → j < n → ((i : ℕ) → k ≤ i → i < k + j → secondGlyph set size i ≡ g → ⊥) → secondGlyph set size (k + j) ≡ g
-      → firstWith set size g k n ≡ some (recordPlace size (k + j))
+      → firstWith set size g k n ≡ some (pairValueRecord size (k + j))
   unfolding firstWith
   first-at zero k j h before here = absurd (omega arith)
   first-at (suc n) k zero h before here =
@@ -65,7 +66,7 @@ module _ (set : List ℕ) (size g : ℕ) where
         (side i hi))))
 
     -- record m has the glyph
-    here : (m : ℕ) → m < n → secondGlyph set size m ≤ g → g ≤ secondGlyph set size m → Found (recordPlace size m) ≡ told (firstWith set size g 0 n)
+    here : (m : ℕ) → m < n → secondGlyph set size m ≤ g → g ≤ secondGlyph set size m → Found (pairValueRecord size m) ≡ told (firstWith set size g 0 n)
     here m h a b =
         let z : 0 + m ≡ m = omega arith in
         let e : secondGlyph set size (0 + m) ≡ g = rw z (omega arith) in
@@ -79,7 +80,7 @@ module _ (set : List ℕ) (size g : ℕ) where
         let m = middle lo hi in
         let hn = b .hi-le in
         let mn : m < n = omega arith in
-        let w : recordPlace size m + 2 ≤ length set = omega (arith, row-in size m n mn) in
+        let w : pairValueRecord size m + 2 ≤ length set = omega (arith, row-in size m n mn) in
         ⊎-elim
         (λ (u : g < secondGlyph set size m).
         rw (probe-down set size g k lo hi l w u) (means fits wide k lo m (omega arith) (go-down spanOf n g lo hi apart b m (omega arith) (omega arith) u)))

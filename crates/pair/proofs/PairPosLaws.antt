@@ -13,15 +13,15 @@ use Rattle.tables.specs.ClassDef.{classGoodAt}
 use Rattle.tables.specs.Coverage.{coverageGoodAt}
 use Rattle.tables.specs.Header.{headerGood, posFormat}
 use Rattle.tables.proofs.HeaderLaws.{Header, header}
-use Rattle.pair.specs.PairPos.{classesGood, format1, format2, pairGood}
+use Rattle.pair.specs.PairPos.{classesGood, valueFormat1, valueFormat2, pairGood}
 
 -- ---- what a good subtable has
 -- a good subtable: not too long, its header whole, its value formats known, its coverage good, and its class lists where the format is 2
 pub record Good (t : List ℕ) : Type 0 where
   pub short : length t ≤ 65536
   pub head : Header 10 16 t
-  pub known1 : format1 t < 256
-  pub known2 : format2 t < 256
+  pub known1 : valueFormat1 t < 256
+  pub known2 : valueFormat2 t < 256
   pub covers : coverageGoodAt t (natAt 2 t 2) ≡ true
   pub classes1 : (posFormat t ≡ 1 → ⊥) → classGoodAt t (natAt 2 t 8) ≡ true
   pub classes2 : (posFormat t ≡ 1 → ⊥) → classGoodAt t (natAt 2 t 10) ≡ true
@@ -35,14 +35,14 @@ unfolding pairGood
 good t e =
     let e1 = and-right (leb (length t) 65536) _ e in
     let e2 = and-right (headerGood 10 16 t) _ e1 in
-    let e3 = and-right (leb (format1 t) 255) _ e2 in
-    let e4 = and-right (leb (format2 t) 255) _ e3 in
+    let e3 = and-right (leb (valueFormat1 t) 255) _ e2 in
+    let e4 = and-right (leb (valueFormat2 t) 255) _ e3 in
     let lists = lists-good t (and-right (coverageGoodAt t (natAt 2 t 2)) _ e4) in
     record {
       short = leb-true (length t) 65536 (and-left _ _ e);
       head = header 10 16 t (and-left _ _ e1);
-      known1 = omega (arith, leb-true (format1 t) 255 (and-left _ _ e2));
-      known2 = omega (arith, leb-true (format2 t) 255 (and-left _ _ e3));
+      known1 = omega (arith, leb-true (valueFormat1 t) 255 (and-left _ _ e2));
+      known2 = omega (arith, leb-true (valueFormat2 t) 255 (and-left _ _ e3));
       covers = and-left _ _ e4;
       classes1 = λ n. and-left _ _ (lists n);
       classes2 = λ n. and-right (classGoodAt t (natAt 2 t 8)) _ (lists n);
@@ -71,19 +71,19 @@ module _ (t : List ℕ) where
   unfolding pairGood
   bad-header h e = simp (le-leb (length t) 65536 h, ← e)
 
-  pub unknown-first : length t ≤ 65536 → true ≡ headerGood 10 16 t → 255 < format1 t → false ≡ pairGood t
+  pub unknown-first : length t ≤ 65536 → true ≡ headerGood 10 16 t → 255 < valueFormat1 t → false ≡ pairGood t
   unfolding pairGood
-  unknown-first h e f = simp (le-leb (length t) 65536 h, ← e, lt-leb (format1 t) 255 f)
+  unknown-first h e f = simp (le-leb (length t) 65536 h, ← e, lt-leb (valueFormat1 t) 255 f)
 
-  pub unknown-second : length t ≤ 65536 → true ≡ headerGood 10 16 t → format1 t ≤ 255 → 255 < format2 t → false ≡ pairGood t
+  pub unknown-second : length t ≤ 65536 → true ≡ headerGood 10 16 t → valueFormat1 t ≤ 255 → 255 < valueFormat2 t → false ≡ pairGood t
   unfolding pairGood
-  unknown-second h e f g = simp (le-leb (length t) 65536 h, ← e, le-leb (format1 t) 255 f, lt-leb (format2 t) 255 g)
+  unknown-second h e f g = simp (le-leb (length t) 65536 h, ← e, le-leb (valueFormat1 t) 255 f, lt-leb (valueFormat2 t) 255 g)
 
-  module _ (h : length t ≤ 65536) (e : true ≡ headerGood 10 16 t) (f : format1 t ≤ 255) (g : format2 t ≤ 255) where
+  module _ (h : length t ≤ 65536) (e : true ≡ headerGood 10 16 t) (f : valueFormat1 t ≤ 255) (g : valueFormat2 t ≤ 255) where
     pub bad-coverage : false ≡ coverageGoodAt t (natAt 2 t 2) → false ≡ pairGood t
     unfolding pairGood
-    bad-coverage c = simp (le-leb (length t) 65536 h, ← e, le-leb (format1 t) 255 f, le-leb (format2 t) 255 g, ← c)
+    bad-coverage c = simp (le-leb (length t) 65536 h, ← e, le-leb (valueFormat1 t) 255 f, le-leb (valueFormat2 t) 255 g, ← c)
 
     pub by-classes : true ≡ coverageGoodAt t (natAt 2 t 2) → classesGood t ≡ pairGood t
     unfolding pairGood
-    by-classes c = simp (le-leb (length t) 65536 h, ← e, le-leb (format1 t) 255 f, le-leb (format2 t) 255 g, ← c)
+    by-classes c = simp (le-leb (length t) 65536 h, ← e, le-leb (valueFormat1 t) 255 f, le-leb (valueFormat2 t) 255 g, ← c)

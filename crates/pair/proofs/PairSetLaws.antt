@@ -5,7 +5,7 @@ use Prim.Native.Nat.{ℕ, zero, suc, _+_, _≤_, _<_}
 use native.Mathlib.Omega.{arith}
 use lib.ListN.{length}
 use borrow.Author.Tests.{le-ltb, lt-ltb}
-use Rattle.pair.specs.PairSet.{middle, probeIn, recordPlace, secondGlyph}
+use Rattle.pair.specs.PairSet.{middle, probeIn, pairValueRecord, secondGlyph}
 use Rattle.pair.specs.declared.pair_set.Probe.{Probe}
 use Rattle.pair.specs.declared.pair_set.Probe.the-variants.{Found, Nothing, Cut}
 
@@ -26,15 +26,15 @@ module _ (set : List ℕ) (size g n lo hi : ℕ) where
       go (suc n) = simp (le-ltb lo hi h)
 
   module _ (h : lo < hi) where
-    pub probe-cut : length set < recordPlace size (middle lo hi) + 2 → probeIn (suc n) set size g lo hi ≡ Cut
+    pub probe-cut : length set < pairValueRecord size (middle lo hi) + 2 → probeIn (suc n) set size g lo hi ≡ Cut
     unfolding probeIn
-    probe-cut c = simp (lt-ltb lo hi h, lt-ltb (length set) (recordPlace size (middle lo hi) + 2) c)
+    probe-cut c = simp (lt-ltb lo hi h, lt-ltb (length set) (pairValueRecord size (middle lo hi) + 2) c)
 
-    module _ (w : recordPlace size (middle lo hi) + 2 ≤ length set) where
+    module _ (w : pairValueRecord size (middle lo hi) + 2 ≤ length set) where
       pub probe-down : g < secondGlyph set size (middle lo hi) → probeIn (suc n) set size g lo hi ≡ probeIn n set size g lo (middle lo hi)
       unfolding probeIn
       probe-down b =
-          simp (lt-ltb lo hi h, le-ltb (length set) (recordPlace size (middle lo hi) + 2) w, lt-ltb g (secondGlyph set size (middle lo hi)) b)
+          simp (lt-ltb lo hi h, le-ltb (length set) (pairValueRecord size (middle lo hi) + 2) w, lt-ltb g (secondGlyph set size (middle lo hi)) b)
 
       pub probe-up : secondGlyph set size (middle lo hi) < g → probeIn (suc n) set size g lo hi ≡ probeIn n set size g (middle lo hi + 1) hi
       unfolding probeIn
@@ -42,18 +42,18 @@ module _ (set : List ℕ) (size g n lo hi : ℕ) where
           let c : secondGlyph set size (middle lo hi) ≤ g = omega arith in
           simp (
             lt-ltb lo hi h,
-            le-ltb (length set) (recordPlace size (middle lo hi) + 2) w,
+            le-ltb (length set) (pairValueRecord size (middle lo hi) + 2) w,
             le-ltb g (secondGlyph set size (middle lo hi)) c,
             lt-ltb (secondGlyph set size (middle lo hi)) g b,
           )
 
       pub probe-hit : secondGlyph set size (middle lo hi) ≤ g → g ≤ secondGlyph set size (middle lo hi)
-          → probeIn (suc n) set size g lo hi ≡ Found (recordPlace size (middle lo hi))
+          → probeIn (suc n) set size g lo hi ≡ Found (pairValueRecord size (middle lo hi))
       unfolding probeIn
       probe-hit a b =
           simp (
             lt-ltb lo hi h,
-            le-ltb (length set) (recordPlace size (middle lo hi) + 2) w,
+            le-ltb (length set) (pairValueRecord size (middle lo hi) + 2) w,
             le-ltb g (secondGlyph set size (middle lo hi)) a,
             le-ltb (secondGlyph set size (middle lo hi)) g b,
           )
@@ -72,15 +72,15 @@ module _ {set : List ℕ} {size g lo hi : ℕ} {all : Probe} (l : Left set size 
         go zero e q = absurd (omega arith)
         go (suc n) e q = f n e q
 
-    pub cut : length set < recordPlace size (middle lo hi) + 2 → all ≡ Cut
+    pub cut : length set < pairValueRecord size (middle lo hi) + 2 → all ≡ Cut
     cut c = step (λ n e q. q ∙ probe-cut set size g n lo hi h c)
 
-    module _ (w : recordPlace size (middle lo hi) + 2 ≤ length set) where
+    module _ (w : pairValueRecord size (middle lo hi) + 2 ≤ length set) where
       pub down : g < secondGlyph set size (middle lo hi) → Left set size g all lo (middle lo hi)
       down b = step (λ n e q. record { steps = n; enough = omega arith; same = q ∙ probe-down set size g n lo hi h w b })
 
       pub up : secondGlyph set size (middle lo hi) < g → Left set size g all (middle lo hi + 1) hi
       up b = step (λ n e q. record { steps = n; enough = omega arith; same = q ∙ probe-up set size g n lo hi h w b })
 
-      pub hit : secondGlyph set size (middle lo hi) ≤ g → g ≤ secondGlyph set size (middle lo hi) → all ≡ Found (recordPlace size (middle lo hi))
+      pub hit : secondGlyph set size (middle lo hi) ≤ g → g ≤ secondGlyph set size (middle lo hi) → all ≡ Found (pairValueRecord size (middle lo hi))
       hit a b = step (λ n e q. q ∙ probe-hit set size g n lo hi h w a b)

@@ -15,13 +15,13 @@ use Rattle.tables.specs.Header.{posFormat}
 use Rattle.tables.specs.ClassDef.{classAt}
 use Rattle.tables.specs.Part.{tableAt}
 use Rattle.tables.specs.declared.coverage.Covered.{Covered}
-use Rattle.tables.specs.declared.coverage.Covered.the-variants.{At, Not}
-use Rattle.answers.specs.Said.{Range, concat}
+use Rattle.tables.specs.declared.coverage.Covered.the-variants.{Index, Not}
+use Rattle.answers.specs.Said.{Range, unsafeToConcat}
 use Rattle.answers.specs.declared.Neighbour.{Neighbour}
-use Rattle.answers.specs.declared.Neighbour.the-variants.{At as Named, Missing}
+use Rattle.answers.specs.declared.Neighbour.the-variants.{Named, Missing}
 use Rattle.pair.specs.PairPos.{class1Count, firstIndex, pairLength, pairSet, class2Count}
 use Rattle.pair.specs.PairSet.{probe}
-use Rattle.pair.specs.Plan.{Plan, adjust, fromClasses, fromCovered, fromNeighbour, fromProbe, fromSecond, fromSet, missed, planOf, stop}
+use Rattle.pair.specs.Plan.{Plan, adjust, afterClasses, afterCovered, afterNeighbour, afterProbe, afterSecond, afterSet, missed, planOf, stop}
 use Rattle.pair.specs.declared.pair_set.Probe.{Probe}
 
 -- ---- the offset of pair set k, of the n that the header counts: past the count, cut, there
@@ -49,60 +49,60 @@ module _ (t : List ℕ) (off : ℕ) (set : List ℕ) (e : set ≡ tableAt t off)
 
 -- ---- format 1: a set under 2 bytes, and one that is probed
 module _ (t : List ℕ) (idx second g off k : ℕ) (set : List ℕ) (e : set ≡ tableAt t off) (s : tableAt t off ≡ pairSet t k) where
-  pub short-set : length set < 2 → stop [] ≡ fromSet t idx second g (pairSet t k)
+  pub short-set : length set < 2 → stop [] ≡ afterSet t idx second g (pairSet t k)
   short-set h = rw (← s, ← e) (simp (lt-ltb (length set) 2 h))
 
   pub probed-set : 2 ≤ length set → (size : ℕ) → size ≡ pairLength t → (found : Probe) → found ≡ probe set (2 + size) g
-      → (p : Plan) → p ≡ fromProbe idx second (drop off t) found → p ≡ fromSet t idx second g (pairSet t k)
+      → (p : Plan) → p ≡ afterProbe idx second (drop off t) found → p ≡ afterSet t idx second g (pairSet t k)
   probed-set h size w found f p q =
-      q ∙ ap (λ (l : List ℕ). fromProbe idx second l found) (sym (set-part t off set e h))
-      ∙ ap (fromProbe idx second set) (f ∙ ap (λ (n : ℕ). probe set (2 + n) g) w)
+      q ∙ ap (λ (l : List ℕ). afterProbe idx second l found) (sym (set-part t off set e h))
+      ∙ ap (afterProbe idx second set) (f ∙ ap (λ (n : ℕ). probe set (2 + n) g) w)
       ∙ sym (rw (← s, ← e) (simp (le-ltb (length set) 2 h)))
 
 -- ---- format 2: a class outside its count, a record that is cut, and one that is there
 module _ (t : List ℕ) (idx second c₁ c₂ n₁ n₂ : ℕ) (e₁ : n₁ ≡ class1Count t) (e₂ : n₂ ≡ class2Count t) where
-  pub first-outside : n₁ ≤ c₁ → missed idx second ≡ fromClasses t idx second c₁ c₂
+  pub first-outside : n₁ ≤ c₁ → missed idx second ≡ afterClasses t idx second c₁ c₂
   first-outside h = rw (← e₁) (simp (le-ltb c₁ n₁ h))
 
   module _ (h₁ : c₁ < n₁) where
-    pub second-outside : n₂ ≤ c₂ → missed idx second ≡ fromClasses t idx second c₁ c₂
+    pub second-outside : n₂ ≤ c₂ → missed idx second ≡ afterClasses t idx second c₁ c₂
     second-outside h = rw (← e₁, ← e₂) (simp (lt-ltb c₁ n₁ h₁, le-ltb c₂ n₂ h))
 
     module _ (h₂ : c₂ < n₂) (size : ℕ) (e : size ≡ pairLength t) where
-      pub record-cut : length t < 16 + size * (c₁ * n₂ + c₂) + size → missed idx second ≡ fromClasses t idx second c₁ c₂
+      pub record-cut : length t < 16 + size * (c₁ * n₂ + c₂) + size → missed idx second ≡ afterClasses t idx second c₁ c₂
       record-cut h = rw (← e₁, ← e₂, ← e) (simp (lt-ltb c₁ n₁ h₁, lt-ltb c₂ n₂ h₂, lt-leb (16 + size * (c₁ * n₂ + c₂) + size) (length t) h))
 
       pub record-there : 16 + size * (c₁ * n₂ + c₂) + size ≤ length t
-          → adjust t (16 + size * (c₁ * n₂ + c₂)) second ≡ fromClasses t idx second c₁ c₂
+          → adjust t (16 + size * (c₁ * n₂ + c₂)) second ≡ afterClasses t idx second c₁ c₂
       record-there h = rw (← e₁, ← e₂, ← e) (simp (lt-ltb c₁ n₁ h₁, lt-ltb c₂ n₂ h₂, le-leb (16 + size * (c₁ * n₂ + c₂) + size) (length t) h))
 
 -- ---- the two formats; p is the plan that code has
 module _ (t : List ℕ) (ss : List Slot) (idx k second : ℕ) (p : Plan) where
   pub by-set : (format g : ℕ) → format ≡ posFormat t → format ≡ 1 → g ≡ slot ss second .glyph
-      → p ≡ fromSet t idx second g (pairSet t k) → p ≡ fromSecond t ss idx k second
+      → p ≡ afterSet t idx second g (pairSet t k) → p ≡ afterSecond t ss idx k second
   by-set format g f one e q = q ∙ rw (← e) (simp (eq-eqb (posFormat t) 1 (sym f ∙ one)))
 
   pub by-classes : (posFormat t ≡ 1 → ⊥) → (g₁ g₂ o₁ o₂ c₁ c₂ : ℕ) → g₁ ≡ slot ss idx .glyph → g₂ ≡ slot ss second .glyph
       → o₁ ≡ natAt 2 t 8 → o₂ ≡ natAt 2 t 10 → c₁ ≡ classAt t o₁ g₁ → c₂ ≡ classAt t o₂ g₂
-      → p ≡ fromClasses t idx second c₁ c₂ → p ≡ fromSecond t ss idx k second
+      → p ≡ afterClasses t idx second c₁ c₂ → p ≡ afterSecond t ss idx k second
   by-classes two g₁ g₂ o₁ o₂ c₁ c₂ a b x y u v q = rw (ne-eqb (posFormat t) 1 two, ← a, ← b, ← x, ← y, ← u, ← v) q
 
 -- ---- the neighbour that is named, and the one that is missing
 module _ (t : List ℕ) (ss : List Slot) (idx k : ℕ) (n : Neighbour) where
-  pub by-named : (second : ℕ) → n ≡ Named second → (p : Plan) → p ≡ fromSecond t ss idx k second → p ≡ fromNeighbour t ss idx k n
+  pub by-named : (second : ℕ) → n ≡ Named second → (p : Plan) → p ≡ afterSecond t ss idx k second → p ≡ afterNeighbour t ss idx k n
   by-named second e p q = rw e q
 
-  pub by-missing : (e : ℕ) → n ≡ Missing e → (hazards : List Range) → hazards ≡ concat idx e ∷ [] → stop hazards ≡ fromNeighbour t ss idx k n
+  pub by-missing : (e : ℕ) → n ≡ Missing e → (hazards : List Range) → hazards ≡ unsafeToConcat idx e ∷ [] → stop hazards ≡ afterNeighbour t ss idx k n
   by-missing e m hazards q = rw m (ap stop q)
 
 -- ---- coverage comes first: r is what was found
 module _ (t : List ℕ) (ss : List Slot) (idx : ℕ) (n : Neighbour) (g : ℕ) (r : Covered) (e : g ≡ slot ss idx .glyph) (i : r ≡ firstIndex t g) where
-  by-coverage : fromCovered t ss idx n r ≡ planOf t ss idx n
+  by-coverage : afterCovered t ss idx n r ≡ planOf t ss idx n
   unfolding planOf
-  by-coverage = ap (fromCovered t ss idx n) (i ∙ ap (firstIndex t) e)
+  by-coverage = ap (afterCovered t ss idx n) (i ∙ ap (firstIndex t) e)
 
-  pub covered : (k : ℕ) → r ≡ At k → (p : Plan) → p ≡ fromNeighbour t ss idx k n → p ≡ planOf t ss idx n
-  covered k c p q = q ∙ sym (ap (fromCovered t ss idx n) c) ∙ by-coverage
+  pub covered : (k : ℕ) → r ≡ Index k → (p : Plan) → p ≡ afterNeighbour t ss idx k n → p ≡ planOf t ss idx n
+  covered k c p q = q ∙ sym (ap (afterCovered t ss idx n) c) ∙ by-coverage
 
   pub uncovered : r ≡ Not → stop [] ≡ planOf t ss idx n
-  uncovered c = sym (ap (fromCovered t ss idx n) c) ∙ by-coverage
+  uncovered c = sym (ap (afterCovered t ss idx n) c) ∙ by-coverage

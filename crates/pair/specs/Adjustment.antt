@@ -9,34 +9,48 @@ use Rattle.slots.specs.Line.{update}
 use Rattle.slots.specs.declared.axis.Direction.{Direction}
 use Rattle.values.specs.Format.{recordAt, recordLength}
 use Rattle.values.specs.Value.{valued, worked}
-use Rattle.answers.specs.Said.{Range, break, concat, Said, applied, declined}
-use Rattle.pair.specs.PairPos.{format1, format2}
-use Rattle.pair.specs.Plan.{Plan, stop, adjust}
+use Rattle.answers.specs.Outcome.{Call}
+use Rattle.answers.specs.declared.Neighbour.{Neighbour}
+use Rattle.answers.specs.Said.{Range, unsafeToBreak, unsafeToConcat, Said, applied, declined}
+use Rattle.pair.specs.PairPos.{valueFormat1, valueFormat2}
+use Rattle.pair.specs.Plan.{Plan, stop, adjust, planOf}
 
--- the first record, at a place of a table, and the second, which follows it; each is judged alone, so the second may be cut
+-- the first value record of a pair, at a place of a table: nothing where it is cut
 abbrev pub firstRecord : List ℕ → List ℕ → ℕ → List ℕ
-firstRecord t table at = recordAt table at (format1 t)
+firstRecord t table at = recordAt table at (valueFormat1 t)
 
+-- the second, which follows it; each is judged alone, so it may be cut where the first isn't
 abbrev pub secondRecord : List ℕ → List ℕ → ℕ → List ℕ
-secondRecord t table at = recordAt table (at + recordLength (format1 t)) (format2 t)
+secondRecord t table at = recordAt table (at + recordLength (valueFormat1 t)) (valueFormat2 t)
+
+-- a slot with the first value applied
+abbrev pub firstValued : ℕ → ℕ → Direction → List ℕ → List ℕ → ℕ → Slot → Slot
+firstValued s u d t table at = valued s u d (firstRecord t table at) (valueFormat1 t)
+
+-- a slot with the second value applied
+abbrev pub secondValued : ℕ → ℕ → Direction → List ℕ → List ℕ → ℕ → Slot → Slot
+secondValued s u d t table at = valued s u d (secondRecord t table at) (valueFormat2 t)
 
 -- either record worked
 abbrev pub eitherWorked : Direction → List ℕ → List ℕ → ℕ → Bool
-eitherWorked d t table at = worked d (firstRecord t table at) (format1 t) || worked d (secondRecord t table at) (format2 t)
+eitherWorked d t table at =
+    worked d (firstRecord t table at) (valueFormat1 t) || worked d (secondRecord t table at) (valueFormat2 t)
 
--- break where either worked, else concat: even a zero-valued pair is a hazard, since another second glyph could select a non-zero one
+-- break where either worked, else concat: even a zero-valued pair is a hazard, since another second glyph could select
+-- a non-zero one
 abbrev pub pairHazard : Bool → ℕ → ℕ → Range
-pairHazard w idx second = if w then break idx (second + 1) else concat idx (second + 1)
+pairHazard w idx second = if w then unsafeToBreak idx (second + 1) else unsafeToConcat idx (second + 1)
 
--- a pair is applied, also with zero values; with a second value, by its format alone, the next index is past the second glyph, and one more break is reported
+-- a pair is applied, also with zero values. With a second value, by its format alone, the second glyph is done with:
+-- the next index is past it, and one more break is reported, up to and with the slot after it (harfbuzz #3824, #3888)
 abbrev pub pairSaid : Bool → Bool → ℕ → ℕ → Said
 pairSaid w more idx second =
-    if more then applied (second + 1) (pairHazard w idx second ∷ break idx (second + 2) ∷ []) false
+    if more then applied (second + 1) (pairHazard w idx second ∷ unsafeToBreak idx (second + 2) ∷ []) false
     else applied second (pairHazard w idx second ∷ []) false
 
 -- is there a second value, by its format?
 abbrev pub hasSecond : List ℕ → Bool
-hasSecond t = not (eqb (format2 t) 0)
+hasSecond t = not (eqb (valueFormat2 t) 0)
 
 -- what is said of a plan
 abbrev pub planSaid : Direction → List ℕ → ℕ → Plan → Said
@@ -47,4 +61,12 @@ planSaid d t idx (adjust table at second) = pairSaid (eitherWorked d t table at)
 abbrev pub planned : ℕ → ℕ → Direction → List ℕ → ℕ → Plan → List Slot → List Slot
 planned s u d t idx (stop hazards) ss = ss
 planned s u d t idx (adjust table at second) ss =
-    update second (valued s u d (secondRecord t table at) (format2 t)) (update idx (valued s u d (firstRecord t table at) (format1 t)) ss)
+    update second (secondValued s u d t table at) (update idx (firstValued s u d t table at) ss)
+
+-- pair adjustment of slot i and the second slot that the caller names
+abbrev pub pairAdjustment : (t : List ℕ) (d : Direction) (s u i : ℕ) (second : Neighbour) → Call
+pairAdjustment t d s u i second =
+    record {
+      says = λ ss. planSaid d t i (planOf t ss i second);
+      leaves = λ ss. planned s u d t i (planOf t ss i second) ss;
+    }

@@ -1,12 +1,15 @@
-// Applying the two value records of a pair (`apply_pair`), and the core.
-use crate::decision::Decision;
-use crate::decision::decide;
+// Pair adjustment of a slot and its neighbour: it is decided which record the pair has, and its two value records are
+// applied (`apply_pair`).
+use crate::pair_pos::VALUE_FORMAT1;
+use crate::pair_pos::VALUE_FORMAT2;
+use crate::plan::Plan;
+use crate::plan::plan_of;
 use answers::Answer;
 use answers::Hazard;
 use answers::Hazards;
 use answers::Neighbour;
-use answers::break_range;
-use answers::concat_range;
+use answers::unsafe_to_break;
+use answers::unsafe_to_concat;
 use ints::big_endian::read_u16;
 use slots::axis::Direction;
 use slots::shape::Shape;
@@ -15,18 +18,48 @@ use values::format::record_len;
 use values::value::apply_value;
 ghost use mathlib.Core.Bool.{true};
 ghost use mathlib.Core.Path.{_≡_};
-ghost use Prim.Native.Nat.{_<_};
-ghost use Rattle.ints.specs.Scale.{InScale};
-ghost use Rattle.slots.specs.Line.{Inside, slots};
-ghost use Rattle.answers.specs.Outcome.{Effect};
+ghost use Prim.Native.Nat.{_+_, _<_};
+ghost use Rattle.ints.specs.code.Scale.{InScale};
+ghost use Rattle.slots.specs.code.Shape.{Inside};
+ghost use Rattle.slots.specs.Line.{slots};
+ghost use Rattle.answers.specs.code.Effect.{MadeOn};
 ghost use Rattle.answers.specs.Said.{range, said};
-ghost use Rattle.pair.specs.Adjustment.{eitherWorked, pairHazard, pairSaid, planned, planSaid};
-ghost use Rattle.pair.specs.Meant.{After};
+ghost use Rattle.pair.specs.Adjustment.{pairAdjustment, eitherWorked, pairHazard, pairSaid, planned};
 ghost use Rattle.pair.specs.PairPos.{pairGood};
-ghost use Rattle.pair.specs.Plan.{adjust, planOf};
+ghost use Rattle.pair.specs.Plan.{adjust};
+ghost use Rattle.pair.specs.code.Meant.{After, indexEnd, placeEnd};
 
-// The first value is applied to the first slot, then the second to the second: whether either worked.
-fn apply_both(
+// The pair of slot idx and the neighbour that the caller names, adjusted by the subtable t. The caller has checked the
+// line, the scale, the indices and the subtable.
+pub fn apply(
+    line: &mut [u8],
+    shape: Shape,
+    t: &[u8],
+    d: Direction,
+    s: u32,
+    u: u32,
+    idx: usize,
+    neighbour: Neighbour,
+) -> Answer
+    requires { ⌜ (pairGood (now t) ≡ true) × InScale s u × Inside shape (now line) idx
+        × After (shape .count) idx neighbour ⌝ }
+    ensures { λ r. ⌜ MadeOn (pairAdjustment (now (t .entry)) d s u idx neighbour) (slots shape (now (line .entry)))
+        (said r)
+        (slots shape (now (line .exit))) ⌝ }
+{
+    let plan = plan_of(line, shape, t, idx, neighbour);
+    match plan {
+        Plan::Stop(hazards) => Answer::Declined { hazards: hazards },
+        Plan::Adjust { offset, at, second } => {
+            let worked = apply_pair(line, shape, t, &t[offset..], at, d, s, u, idx, second);
+            pair_answer(worked, read_u16(t, VALUE_FORMAT2) != 0, idx, second)
+        }
+    }
+}
+
+// The first value is applied to the first slot, then the second to the second: whether either worked. Each record is
+// judged alone, so the second may be cut where the first isn't.
+fn apply_pair(
     line: &mut [u8],
     shape: Shape,
     t: &[u8],
@@ -38,11 +71,14 @@ fn apply_both(
     idx: usize,
     second: usize,
 ) -> bool
-    requires { ⌜ (pairGood (now t) ≡ true) × (at < 2147483648) × InScale s u × Inside shape (now line) idx × Inside shape (now line) second ⌝ }
-    ensures { λ r. ⌜ (slots shape (now (line .exit)) ≡ planned s u d (now (t .entry)) idx (adjust (now (table .entry)) at second) (slots shape (now (line .entry)))) × (r ≡ eitherWorked d (now (t .entry)) (now (table .entry)) at) ⌝ }
+    requires { ⌜ (pairGood (now t) ≡ true) × (at < placeEnd) × InScale s u × Inside shape (now line) idx
+        × Inside shape (now line) second ⌝ }
+    ensures { λ r. ⌜ (slots shape (now (line .exit))
+        ≡ planned s u d (now (t .entry)) idx (adjust (now (table .entry)) at second) (slots shape (now (line .entry))))
+        × (r ≡ eitherWorked d (now (t .entry)) (now (table .entry)) at) ⌝ }
 {
-    let format1 = read_u16(t, 4);
-    let format2 = read_u16(t, 6);
+    let format1 = read_u16(t, VALUE_FORMAT1);
+    let format2 = read_u16(t, VALUE_FORMAT2);
     let first = apply_value(
         line,
         shape,
@@ -70,25 +106,15 @@ fn apply_both(
     then
 }
 
-// Break where the pair worked, else concat: even a zero-valued record is a hazard, since another second glyph could select a non-zero one.
-fn pair_hazard(worked: bool, idx: usize, second: usize) -> Hazard
-    requires { ⌜ second < 18446744073709551614 ⌝ }
-    ensures { λ r. ⌜ range r ≡ pairHazard worked idx second ⌝ }
-{
-    if worked {
-        return break_range(idx, second + 1);
-    }
-    concat_range(idx, second + 1)
-}
-
-// The answer of a pair that was applied: with a second value the next index is past the second glyph.
+// The answer of a pair that was applied. With a second value, by its format alone, the second glyph is done with: the
+// next index is past it, and one more break is reported, up to and with the slot after it (harfbuzz #3824, #3888).
 fn pair_answer(worked: bool, more: bool, idx: usize, second: usize) -> Answer
-    requires { ⌜ second < 18446744073709551614 ⌝ }
+    requires { ⌜ second + 2 < indexEnd ⌝ }
     ensures { λ r. ⌜ said r ≡ pairSaid worked more idx second ⌝ }
 {
     let hazard = pair_hazard(worked, idx, second);
     if more {
-        let past = break_range(idx, second + 2);
+        let past = unsafe_to_break(idx, second + 2);
         return Answer::Applied {
             next: second + 1,
             hazards: Hazards::Two(hazard, past),
@@ -102,26 +128,14 @@ fn pair_answer(worked: bool, more: bool, idx: usize, second: usize) -> Answer
     }
 }
 
-// The core: everything has been checked.
-pub fn adjust_pair(
-    line: &mut [u8],
-    shape: Shape,
-    t: &[u8],
-    d: Direction,
-    s: u32,
-    u: u32,
-    idx: usize,
-    neighbour: Neighbour,
-) -> Answer
-    requires { ⌜ (pairGood (now t) ≡ true) × InScale s u × Inside shape (now line) idx × After (shape .count) idx neighbour ⌝ }
-    ensures { λ r. ⌜ Effect (slots shape (now (line .entry))) (planSaid d (now (t .entry)) idx (planOf (now (t .entry)) (slots shape (now (line .entry))) idx neighbour)) (planned s u d (now (t .entry)) idx (planOf (now (t .entry)) (slots shape (now (line .entry))) idx neighbour) (slots shape (now (line .entry)))) (said r) (slots shape (now (line .exit))) ⌝ }
+// Break where the pair worked, else concat: even a zero-valued pair is a hazard, since another second glyph could
+// select a non-zero one.
+fn pair_hazard(worked: bool, idx: usize, second: usize) -> Hazard
+    requires { ⌜ second + 2 < indexEnd ⌝ }
+    ensures { λ r. ⌜ range r ≡ pairHazard worked idx second ⌝ }
 {
-    let decision = decide(line, shape, t, idx, neighbour);
-    match decision {
-        Decision::Stop(hazards) => Answer::Declined { hazards: hazards },
-        Decision::Adjust(off, at, second) => {
-            let worked = apply_both(line, shape, t, &t[off..], at, d, s, u, idx, second);
-            pair_answer(worked, read_u16(t, 6) != 0, idx, second)
-        }
+    if worked {
+        return unsafe_to_break(idx, second + 1);
     }
+    unsafe_to_concat(idx, second + 1)
 }

@@ -4,7 +4,7 @@ use mathlib.Core.List.{[], _∷_}
 use native.Mathlib.Omega.{arith}
 use lib.IntN.{pos, negsuc}
 use Rattle.slots.specs.Slot.{noSlot}
-use Rattle.slots.specs.Fields.{moved}
+use Rattle.slots.specs.Fields.{withPlace}
 use Rattle.show.specs.Text.{end, Row, Spelled, then}
 
 -- 0 is one digit
@@ -35,7 +35,7 @@ less-350 = record { places = 3; fewest = omega arith; digits-are = refl }
 forty : Spelled (pos 40) (52 ∷ 48 ∷ [])
 forty = record { places = 2; fewest = omega arith; digits-are = refl }
 
-row-one : Row 1 (moved (pos 0) (pos 0) (negsuc 349) (pos 40) noSlot) (49 ∷ 32 ∷ 48 ∷ 32 ∷ 48 ∷ 32 ∷ 45 ∷ 51 ∷ 53 ∷ 48 ∷ 32 ∷ 52 ∷ 48 ∷ 10 ∷ [])
+row-one : Row 1 (withPlace (pos 0) (pos 0) (negsuc 349) (pos 40) noSlot) (49 ∷ 32 ∷ 48 ∷ 32 ∷ 48 ∷ 32 ∷ 45 ∷ 51 ∷ 53 ∷ 48 ∷ 32 ∷ 52 ∷ 48 ∷ 10 ∷ [])
 row-one =
     then (record { added = 49 ∷ []; spelled = one; grown = refl })
     (then (record { added = 48 ∷ []; spelled = zero; grown = refl })

@@ -8,7 +8,7 @@ use native.Mathlib.Omega.{arith}
 use lib.IntN.{ℤ, pos, negsuc, natAbs}
 use lib.ListN.{length, length-append, take, set}
 use lib.Seq.{length-take-le, take-append-add, take-append-le, take-suc-set}
-use Rattle.ints.specs.Signed.{val}
+use Rattle.ints.specs.code.Signed.{val}
 use Rattle.ints.proofs.Ints.{negsuc-diff, pos-diff}
 use Rattle.ints.proofs.SignedLaws.{signed-high, signed-low}
 use Rattle.io.specs.Digits.{digits, Fewest}

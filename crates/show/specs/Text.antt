@@ -26,11 +26,13 @@ pub record Grown (z : ℤ) (b : ℕ) (s s′ : List ℕ) : Type 0 where
 -- the text s grows to s′ by these numbers, one after the other, each with its byte after it
 pub data Grows : List ℕ → List (ℤ × ℕ) → List ℕ → Type 0 where
   end : {s : List ℕ} → Grows s [] s
-  then : {s t s′ : List ℕ} {z : ℤ} {b : ℕ} {zs : List (ℤ × ℕ)} → Grown z b s t → Grows t zs s′ → Grows s ((z, b) ∷ zs) s′
+  then : {s t s′ : List ℕ} {z : ℤ} {b : ℕ} {zs : List (ℤ × ℕ)} → Grown z b s t → Grows t zs s′
+      → Grows s ((z, b) ∷ zs) s′
 
--- what is printed of slot i: number, x advance, y advance, x offset, y offset, with single spaces between them and a line end after the last
-abbrev pub rowOf : ℕ → Slot → List (ℤ × ℕ)
-rowOf i s = (pos i, 32) ∷ (s .xAdvance, 32) ∷ (s .yAdvance, 32) ∷ (s .xOffset, 32) ∷ (s .yOffset, 10) ∷ []
+-- what is printed of slot i: number, x advance, y advance, x offset, y offset, with single spaces between them and a
+-- line end after the last
+abbrev pub rowNumbers : ℕ → Slot → List (ℤ × ℕ)
+rowNumbers i s = (pos i, 32) ∷ (s .xAdvance, 32) ∷ (s .yAdvance, 32) ∷ (s .xOffset, 32) ∷ (s .yOffset, 10) ∷ []
 
 abbrev pub Row : ℕ → Slot → List ℕ → Type 0
-Row i s text = Grows [] (rowOf i s) text
+Row i s text = Grows [] (rowNumbers i s) text

@@ -3,9 +3,8 @@ use ints::big_endian::Signed;
 ghost use mathlib.Core.Path.{_≡_};
 ghost use Prim.Native.Nat.{_≤_, _<_};
 ghost use lib.ListN.{length, take};
-ghost use Rattle.ints.specs.Signed.{val};
-ghost use Rattle.io.specs.Digits.{digits, Fewest};
-ghost use Rattle.io.specs.Digits.{glyph as Digits·glyph};
+ghost use Rattle.ints.specs.code.Signed.{val};
+ghost use Rattle.io.specs.Digits.{digits, Fewest, glyph as Digits·glyph};
 ghost use Rattle.show.specs.Text.{Spelled};
 
 // A sign and ten digits: the longest text of a number of 32 bits.

@@ -9,7 +9,8 @@ use ints::big_endian::Signed;
 use libc::STDOUT_FILENO;
 use slots::shape::Shape;
 ghost use Prim.Native.Nat.{_<_};
-ghost use Rattle.slots.specs.Line.{Inside};
+ghost use Rattle.ints.specs.Limits.{half32};
+ghost use Rattle.slots.specs.code.Shape.{Inside};
 
 pub fn text(s: &[u8]) {
     io::write_all(STDOUT_FILENO, s);
@@ -28,7 +29,7 @@ pub fn integer(v: Signed) {
 
 // A slot's number, advances and offsets, as a line.
 pub fn slot(line: &[u8], shape: Shape, i: usize)
-    requires { ⌜ Inside shape (now line) i × (i < 2147483648) ⌝ }
+    requires { ⌜ Inside shape (now line) i × (i < half32) ⌝ }
 {
     let mut space = [0u8; MOST_ROW];
     let n = row(line, shape, i, &mut space);

@@ -7,8 +7,10 @@ use slots::fields::get;
 use slots::shape::Shape;
 ghost use Prim.Native.Nat.{_+_, _≤_, _<_};
 ghost use lib.ListN.{length, take};
-ghost use Rattle.ints.specs.Signed.{val};
-ghost use Rattle.slots.specs.Line.{Inside, slot, slots};
+ghost use Rattle.ints.specs.code.Signed.{val};
+ghost use Rattle.ints.specs.Limits.{half32};
+ghost use Rattle.slots.specs.code.Shape.{Inside};
+ghost use Rattle.slots.specs.Line.{slot, slots};
 ghost use Rattle.show.specs.Text.{Grown, Row};
 
 // Five numbers, each with a byte after it.
@@ -30,7 +32,7 @@ fn put(v: Signed, after: u8, out: &mut [u8], at: usize) -> usize
 
 // Puts slot i's line of text at the start of out, and answers how many bytes it has.
 pub fn row(line: &[u8], shape: Shape, i: usize, out: &mut [u8]) -> usize
-    requires { ⌜ Inside shape (now line) i × (i < 2147483648) × (60 ≤ length (now out)) ⌝ }
+    requires { ⌜ Inside shape (now line) i × (i < half32) × (60 ≤ length (now out)) ⌝ }
     ensures { λ r. ⌜ (r ≤ 60) × Row i (slot (slots shape (now (line .entry))) i) (take r (now (out .exit))) ⌝ }
 {
     let x = get(line, shape, i, Measure::Advance, Axis::X);

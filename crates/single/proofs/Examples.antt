@@ -13,11 +13,11 @@ use Rattle.ints.specs.Signed.{intAt, signed}
 use Rattle.slots.specs.Axis.{directionOf}
 use Rattle.slots.specs.Slot.{Slot, noSlot}
 use Rattle.slots.specs.Line.{update}
-use Rattle.slots.specs.Fields.{moved, withGlyph}
+use Rattle.slots.specs.Fields.{withPlace, withGlyph}
 use Rattle.tables.specs.Header.{headerGood}
 use Rattle.tables.specs.Spans.{ascends, firstHolding, spanAt, spansFrom}
 use Rattle.values.specs.Format.{setBelow}
-use Rattle.values.specs.Touch.{touches}
+use Rattle.values.specs.FieldEffect.{effectOf}
 use Rattle.values.specs.Value.{valued, withFields}
 use Rattle.answers.specs.Said.{Said, applied, declined}
 use Rattle.single.specs.SinglePos.{placeFor, singleGood, singleSaid, singled}
@@ -36,7 +36,7 @@ cut = words (1 ∷ 6 ∷ 255 ∷ 1 ∷ 1 ∷ 7 ∷ [])
 
 -- a slot of a glyph with that x advance, all else 0
 abbrev wide : ℕ → ℕ → Slot
-wide g n = withGlyph g (moved (pos n) (pos 0) (pos 0) (pos 0) noSlot)
+wide g n = withGlyph g (withPlace (pos n) (pos 0) (pos 0) (pos 0) noSlot)
 
 -- what is said, and the slots
 pub record Result : Type 0 where
@@ -73,7 +73,7 @@ table =
 
 -- each is as it should be
 pub computed : map (λ (x : Row). x .done) table ≡ map (λ (x : Row). x .right) table
-unfolding natAt clamp32 floorDiv scaled intAt signed setBelow touches valued withFields update ascends firstHolding spanAt spansFrom placeFor
+unfolding natAt clamp32 floorDiv scaled intAt signed setBelow effectOf valued withFields update ascends firstHolding spanAt spansFrom placeFor
 computed = refl
 
 -- the check: the three are good; a header cut in either format, the formats 0 and 3, the value format 256 and a cut coverage table are not
@@ -100,13 +100,13 @@ ends =
     ∷ []
 
 pub at-ends : map (λ (x : Row). x .done) ends ≡ map (λ (x : Row). x .right) ends
-unfolding natAt clamp32 floorDiv scaled intAt signed setBelow touches valued withFields update ascends firstHolding spanAt spansFrom placeFor
+unfolding natAt clamp32 floorDiv scaled intAt signed setBelow effectOf valued withFields update ascends firstHolding spanAt spansFrom placeFor
 at-ends = refl
 
 -- an offset into the header is read as given: the value format 1 is the coverage's format, and the value, x placement 2, its count
 pub into-header : singled 1000 1000 (directionOf 0) (words (1 ∷ 4 ∷ 1 ∷ 2 ∷ 5 ∷ 7 ∷ [])) 0 (wide 5 0 ∷ [])
-    ≡ withGlyph 5 (moved (pos 0) (pos 0) (pos 2) (pos 0) noSlot) ∷ []
-unfolding natAt clamp32 floorDiv scaled intAt signed setBelow touches valued withFields update firstHolding spanAt spansFrom placeFor
+    ≡ withGlyph 5 (withPlace (pos 0) (pos 0) (pos 2) (pos 0) noSlot) ∷ []
+unfolding natAt clamp32 floorDiv scaled intAt signed setBelow effectOf valued withFields update firstHolding spanAt spansFrom placeFor
 into-header = refl
 
 -- headers alone, with coverage offset 0 and value format 255, are good; no bytes, and a coverage at the end or past it, are not

@@ -5,7 +5,7 @@ use Prim.Native.Nat.{ℕ}
 use native.Mathlib.Omega.{arith}
 use Rattle.slots.specs.Slot.{Slot}
 use Rattle.slots.specs.Line.{slot}
-use Rattle.answers.specs.Hazards.{FewHazards}
+use Rattle.answers.specs.theorems.Hazards.{FewHazards}
 use Rattle.single.specs.SinglePos.{adjustSaid, placeFor, singleSaid}
 
 pub few : (t : List ℕ) (ss : List Slot) (i : ℕ) → FewHazards (singleSaid t ss i)

@@ -20,8 +20,8 @@ use Rattle.tables.proofs.HeaderLaws.{header}
 use Rattle.values.specs.Format.{recordAt}
 use Rattle.values.specs.Value.{valued}
 use Rattle.answers.specs.Said.{applied, declined}
-use Rattle.answers.specs.Outcome.{Effect}
-use Rattle.single.specs.SinglePos.{placeFor, recordPlace, singleGood, singleSaid, singled}
+use Rattle.answers.specs.code.Effect.{Effect}
+use Rattle.single.specs.SinglePos.{placeFor, valuePlace, singleGood, singleSaid, singled}
 
 -- a subtable that passed the check
 module _ (t : List ℕ) (good : singleGood t ≡ true) where
@@ -42,9 +42,9 @@ module _ (t : List ℕ) (good : singleGood t ≡ true) where
   coverage-good = and-right (leb (natAt 2 t 4) 255) _ (and-right (headerGood 6 8 t) _ checked)
 
 -- where a glyph's record is, by what the coverage at the offset `off` found
-pub place-by : (t : List ℕ) (g off : ℕ) (v : Covered) → off ≡ natAt 2 t 2 → v ≡ coverageAt t off g → recordPlace t v ≡ placeFor t g
+pub place-by : (t : List ℕ) (g off : ℕ) (v : Covered) → off ≡ natAt 2 t 2 → v ≡ coverageAt t off g → valuePlace t v ≡ placeFor t g
 unfolding placeFor
-place-by t g off v o e = ap (recordPlace t) (e ∙ ap (λ (n : ℕ). coverageAt t n g) o)
+place-by t g off v o e = ap (valuePlace t) (e ∙ ap (λ (n : ℕ). coverageAt t n g) o)
 
 -- ---- the effect on slot i of the slots ss, by where its glyph's record is
 module _ (s u : ℕ) (d : Direction) (t : List ℕ) (i : ℕ) (ss : List Slot) where

@@ -1,3 +1,3 @@
 // Single adjustment (`SinglePos1`, `SinglePos2`): a value record for each covered glyph, or one for all.
-pub mod subtable; // the SinglePos table: its check, and which record a glyph has
-pub mod adjust; // the core
+pub mod single_pos; // the SinglePos table: its check, and which record a glyph has
+pub mod adjustment; // adjusting a slot by its record

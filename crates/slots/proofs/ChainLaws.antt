@@ -8,10 +8,11 @@ use borrow.Author.Tests.{eq-eqb, ne-eqb}
 use lib.Dec.{eqb}
 use lib.IntN.{ℤ, pos, negsuc, natAbs, _-ℤ_}
 use lib.Signed.{mag}
-use Rattle.ints.specs.Signed.{InBytes, signed, val}
+use Rattle.ints.specs.Signed.{InBytes, signed}
+use Rattle.ints.specs.code.Signed.{val}
 use Rattle.ints.proofs.Ints.{by-sign, diff, sub-pos}
 use Rattle.ints.proofs.SignedLaws.{signed-high, signed-low, signed-same}
-use Rattle.slots.specs.Fields.{swapped}
+use Rattle.slots.specs.code.Fields.{swapped}
 
 -- 0 is one
 pub zero-fits : InBytes 2 (val 0)

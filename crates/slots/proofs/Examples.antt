@@ -7,8 +7,9 @@ use lib.IntN.{ℤ, pos}
 use Rattle.ints.specs.BigEndian.{digits, natAt}
 use Rattle.ints.specs.Saturating.{minus}
 use Rattle.ints.specs.Signed.{intAt, pattern, signed}
-use Rattle.slots.specs.Checks.{misshapen, outOfRange, some, uneven, unranged}
-use Rattle.slots.specs.Clusters.{clusters, isNumberedFrom, numberedFrom, plainLine, plainN}
+use Rattle.slots.specs.Checks.{badLine, badSlot, some, badLength, badSlots}
+use Rattle.slots.specs.theorems.Clusters.{clusters, plainLine, plainN}
+use Rattle.slots.specs.Numbered.{isNumberedFrom, numberedFrom}
 use Rattle.slots.specs.Fields.{attached, flagIn, withByte, withCluster}
 use Rattle.slots.specs.Line.{bytes, lineSlots, slots, slotsN}
 use Rattle.slots.specs.Parent.{parent}
@@ -18,7 +19,7 @@ use Rattle.slots.specs.declared.fields.ByteField.{ByteField}
 use Rattle.slots.specs.declared.fields.ByteField.the-variants.{LigatureId, Component, Flags, AttachType}
 use Rattle.slots.specs.declared.fields.Flag.the-variants.{Seen, Mark, Multiplied}
 use Rattle.slots.specs.declared.parent.Parent.{Parent}
-use Rattle.slots.specs.declared.parent.Parent.the-variants.{None, Outside, At}
+use Rattle.slots.specs.declared.parent.Parent.the-variants.{None, Outside, InLine}
 
 -- 24 bytes with every field at an end of its range, or beside it
 abbrev full : List ℕ
@@ -59,7 +60,7 @@ zeros (suc n) = 0 ∷ zeros n
 
 -- is a slot with one byte at n, all else 0, out of range?
 abbrev out : ByteField → ℕ → Bool
-out f n = outOfRange (withByte f n noSlot)
+out f n = badSlot (withByte f n noSlot)
 
 -- the parent of slot 1 of three, by its chain
 abbrev parentAt : ℤ → Parent
@@ -74,20 +75,20 @@ pub record Worked : Type 0 where
   pub flags-are : (map (flagIn Seen) (1 ∷ 6 ∷ []) ≡ (true ∷ false ∷ [])) × (map (flagIn Mark) (2 ∷ 5 ∷ []) ≡ (true ∷ false ∷ []))
       × (map (flagIn Multiplied) (4 ∷ 3 ∷ []) ≡ (true ∷ false ∷ []))
   -- refusal 1: an empty line is whole; so is one slot, one byte more or less is not
-  pub lengths : map (λ (n : ℕ). misshapen 24 (zeros n)) (0 ∷ 23 ∷ 24 ∷ 25 ∷ 48 ∷ []) ≡ (false ∷ true ∷ false ∷ true ∷ false ∷ [])
-  pub lengths-clustered : map (λ (n : ℕ). misshapen 28 (zeros n)) (0 ∷ 27 ∷ 28 ∷ 29 ∷ 56 ∷ []) ≡ (false ∷ true ∷ false ∷ true ∷ false ∷ [])
+  pub lengths : map (λ (n : ℕ). badLine 24 (zeros n)) (0 ∷ 23 ∷ 24 ∷ 25 ∷ 48 ∷ []) ≡ (false ∷ true ∷ false ∷ true ∷ false ∷ [])
+  pub lengths-clustered : map (λ (n : ℕ). badLine 28 (zeros n)) (0 ∷ 27 ∷ 28 ∷ 29 ∷ 56 ∷ []) ≡ (false ∷ true ∷ false ∷ true ∷ false ∷ [])
   -- 168 bytes may be slots of either size, which the caller names; no other size has a line, not even an empty one
-  pub sizes : map (λ (z : ℕ). misshapen z (zeros 168)) (24 ∷ 28 ∷ 12 ∷ 56 ∷ []) ≡ (false ∷ false ∷ true ∷ true ∷ []) × map (λ (z : ℕ). misshapen z []) (0 ∷ 26 ∷ []) ≡ (true ∷ true ∷ [])
+  pub sizes : map (λ (z : ℕ). badLine z (zeros 168)) (24 ∷ 28 ∷ 12 ∷ 56 ∷ []) ≡ (false ∷ false ∷ true ∷ true ∷ []) × map (λ (z : ℕ). badLine z []) (0 ∷ 26 ∷ []) ≡ (true ∷ true ∷ [])
   -- 1,024 slots are the most: 24,576 bytes, and 28,672 with clusters
-  pub longest : (map (uneven 24) (24576 ∷ 24600 ∷ []) ≡ (false ∷ true ∷ [])) × (map (uneven 28) (24584 ∷ 28672 ∷ 28700 ∷ []) ≡ (false ∷ false ∷ true ∷ []))
+  pub longest : (map (badLength 24) (24576 ∷ 24600 ∷ []) ≡ (false ∷ true ∷ [])) × (map (badLength 28) (24584 ∷ 28672 ∷ 28700 ∷ []) ≡ (false ∷ false ∷ true ∷ []))
   -- refusal 4: id 7, component 15, flags 7 are in range, one more is not; any type is
   pub ranges : (map (out LigatureId) (7 ∷ 8 ∷ []) ≡ (false ∷ true ∷ [])) × (map (out Component) (15 ∷ 16 ∷ []) ≡ (false ∷ true ∷ []))
       × (map (out Flags) (7 ∷ 8 ∷ []) ≡ (false ∷ true ∷ [])) × (map (out AttachType) (0 ∷ 3 ∷ 255 ∷ []) ≡ (false ∷ false ∷ false ∷ []))
   -- it looks at every slot, the last too
-  pub last-slot : unranged (noSlot ∷ withByte Flags 8 noSlot ∷ []) ≡ true
+  pub last-slot : badSlots (noSlot ∷ withByte Flags 8 noSlot ∷ []) ≡ true
   -- chain 0 is not attached; a parent is in the line from slot 0 to the last, and else outside, however far
   pub parents : map parentAt (pos 0 ∷ minus 1 ∷ pos 1 ∷ minus 2 ∷ pos 2 ∷ minus 32768 ∷ pos 32767 ∷ [])
-      ≡ (None ∷ At 0 ∷ At 2 ∷ Outside ∷ Outside ∷ Outside ∷ Outside ∷ [])
+      ≡ (None ∷ InLine 0 ∷ InLine 2 ∷ Outside ∷ Outside ∷ Outside ∷ Outside ∷ [])
   -- moving gives each slot its number; the old bytes of a line with clusters are its first 24 of each 28
   pub numbers : (clusters (numberedFrom 0 (clusteredSlot ∷ noSlot ∷ noSlot ∷ [])) ≡ (0 ∷ 1 ∷ 2 ∷ [])) × (plainLine (clustered ++ clustered) ≡ full ++ full)
   pub numbered : map (isNumberedFrom 0) ((noSlot ∷ withCluster 1 noSlot ∷ []) ∷ (noSlot ∷ noSlot ∷ []) ∷ (clusteredSlot ∷ []) ∷ [] ∷ []) ≡ (true ∷ false ∷ false ∷ true ∷ [])

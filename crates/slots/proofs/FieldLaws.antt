@@ -10,7 +10,8 @@ use Rattle.ints.specs.Signed.{InBytes, intAt, signed, withInt}
 use Rattle.ints.proofs.BigEndianLaws.{natAt-digits}
 use Rattle.ints.proofs.SignedLaws.{intAt-digits}
 use Rattle.slots.specs.Slot.{Slot, slotOf, slotSize}
-use Rattle.slots.specs.Fields.{byteAt, byteOf, measure, measureAt, withByte, withChain, withGlyph, withMeasure}
+use Rattle.slots.specs.code.Fields.{byteAt, measureAt}
+use Rattle.slots.specs.Fields.{byteOf, measure, withByte, withChain, withGlyph, withMeasure}
 use Rattle.slots.specs.Start.{unattached}
 use Rattle.slots.specs.declared.axis.Axis.{Axis}
 use Rattle.slots.specs.declared.axis.Axis.the-variants.{X, Y}

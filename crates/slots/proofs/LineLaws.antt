@@ -10,12 +10,14 @@ use lib.ListN.{length, getD, set, take, drop, length-append, length-drop, length
 use lib.Seq.{take-at, drop-at, drop-drop, take-add, length-take-le, getD-set-other, getD-set-same, set-getD, set-set, slice, take-nil}
 use borrow.Author.Tests.{eqb-true, ltb-false, not-false}
 use borrow.Rule.Slice.PartMut.{midOf, putMid}
-use Rattle.ints.specs.BigEndian.{Bytes}
+use Rattle.ints.specs.BigEndian.{AllBytes}
 use Rattle.ints.proofs.BigEndianLaws.{bytes-drop, bytes-take}
 use Rattle.ints.proofs.TestLaws.{or-false}
 use Rattle.slots.specs.Slot.{Slot, bytesOf, known, noSlot, slotOf, slotSize}
-use Rattle.slots.specs.Line.{AllStorable, bytes, count, Fits, Inside, lineSlots, partShape, shapeOf, shapeWith, slot, slots, slotsN, update}
-use Rattle.slots.specs.Checks.{misshapen, mostSlots, uneven}
+use Rattle.slots.specs.theorems.Storable.{AllStorable}
+use Rattle.slots.specs.Line.{bytes, count, lineSlots, shapeOf, shapeWith, slot, slots, slotsN, update}
+use Rattle.slots.specs.code.Shape.{Fits, Inside, partShape}
+use Rattle.slots.specs.Checks.{badLine, mostSlots, badLength}
 use Rattle.slots.specs.declared.shape.Shape.{Shape}
 use Rattle.slots.proofs.SlotLaws.{bytesOf-slotOf, length-bytesOf, size-wide, slotOf-bytesOf, slotOf-storable}
 
@@ -101,20 +103,20 @@ fits : (w : Shape) (l : List ℕ) → slotSize ≤ w .size → length l ≡ w .c
 fits w l h e = record { wide = h; whole = e; few = omega (arith, mul-le-mul-left (w .count) h) }
 
 -- a line that isn't misshapen has slots of a known size, and its shape
-pub known-size : (z : ℕ) (l : List ℕ) → misshapen z l ≡ false → known z ≡ true
-known-size z l e = not-false (known z) (or-false (not (known z)) (uneven z (length l)) e .0)
+pub known-size : (z : ℕ) (l : List ℕ) → badLine z l ≡ false → known z ≡ true
+known-size z l e = not-false (known z) (or-false (not (known z)) (badLength z (length l)) e .0)
 
-pub shapely : (z : ℕ) (l : List ℕ) → misshapen z l ≡ false → Fits (shapeOf z l) l
+pub shapely : (z : ℕ) (l : List ℕ) → badLine z l ≡ false → Fits (shapeOf z l) l
 shapely z l e =
     let even = eqb (length l % z) 0 in
-    let right : uneven z (length l) ≡ false = or-false (not (known z)) (uneven z (length l)) e .1 in
+    let right : badLength z (length l) ≡ false = or-false (not (known z)) (badLength z (length l)) e .1 in
     let none : length l % z ≡ 0 = eqb-true (length l % z) 0 (not-false even (or-false (not even) (ltb (mostSlots * z) (length l)) right .0)) in
     fits (shapeOf z l) l (size-wide z (known-size z l e)) (omega (arith, div-add-mod' (length l) z))
 
 -- and is no longer than the longest line
-pub line-short : (z : ℕ) (l : List ℕ) → misshapen z l ≡ false → length l ≤ mostSlots * z
+pub line-short : (z : ℕ) (l : List ℕ) → badLine z l ≡ false → length l ≤ mostSlots * z
 line-short z l e =
-    let right : uneven z (length l) ≡ false = or-false (not (known z)) (uneven z (length l)) e .1 in
+    let right : badLength z (length l) ≡ false = or-false (not (known z)) (badLength z (length l)) e .1 in
     ltb-false (mostSlots * z) (length l) (or-false (not (eqb (length l % z) 0)) (ltb (mostSlots * z) (length l)) right .1)
 
 -- a line as long as another has its shape
@@ -123,7 +125,7 @@ kept-shape z l l′ n = ap (λ (k : ℕ). slots (shapeWith z (k / z)) l′) n
 
 -- ---- bytes to slots and back, of a size that slots may have
 module _ (z : ℕ) (k : known z ≡ true) where
-  bytes-slotsN : (n : ℕ) (l : List ℕ) → length l ≡ n * z → Bytes l → bytes z (slotsN z n l) ≡ l
+  bytes-slotsN : (n : ℕ) (l : List ℕ) → length l ≡ n * z → AllBytes l → bytes z (slotsN z n l) ≡ l
   unfolding bytes slotsN
   bytes-slotsN zero [] e h = refl
   bytes-slotsN zero (x ∷ l) e h = absurd (omega arith)
@@ -134,16 +136,16 @@ module _ (z : ℕ) (k : known z ≡ true) where
       rw (bytesOf-slotOf z k (take z l) a (bytes-take z l h), bytes-slotsN n (drop z l) d (bytes-drop z l h)) (take-append-drop z l)
 
   -- a line of whole slots is the bytes of its slots
-  pub bytes-slots : (l : List ℕ) → Fits (shapeOf z l) l → Bytes l → bytes z (lineSlots z l) ≡ l
+  pub bytes-slots : (l : List ℕ) → Fits (shapeOf z l) l → AllBytes l → bytes z (lineSlots z l) ≡ l
   unfolding slots
   bytes-slots l w h = bytes-slotsN (count z l) l (w .whole) h
 
   -- what the slots of a whole line are decides its bytes
-  pub from-slots : (l : List ℕ) (ss : List Slot) → Fits (shapeOf z l) l → Bytes l → lineSlots z l ≡ ss → l ≡ bytes z ss
+  pub from-slots : (l : List ℕ) (ss : List Slot) → Fits (shapeOf z l) l → AllBytes l → lineSlots z l ≡ ss → l ≡ bytes z ss
   from-slots l ss e h s = sym (bytes-slots l e h) ∙ ap (bytes z) s
 
   -- two whole lines of the same slots are the same bytes
-  pub same-slots : (m l : List ℕ) → Fits (shapeOf z m) m → Fits (shapeOf z l) l → Bytes m → Bytes l → lineSlots z m ≡ lineSlots z l → m ≡ l
+  pub same-slots : (m l : List ℕ) → Fits (shapeOf z m) m → Fits (shapeOf z l) l → AllBytes m → AllBytes l → lineSlots z m ≡ lineSlots z l → m ≡ l
   same-slots m l e d g h s = from-slots m (lineSlots z l) e g s ∙ bytes-slots l d h
 
   pub length-bytes : (ss : List Slot) → length (bytes z ss) ≡ length ss * z
@@ -166,13 +168,13 @@ module _ (z : ℕ) (k : known z ≡ true) where
   unfolding slots
   slots-bytes ss h = rw (count-bytes ss) (slotsN-bytes ss h)
 
-  storable-slotsN : (n : ℕ) (l : List ℕ) → Bytes l → AllStorable z (slotsN z n l)
+  storable-slotsN : (n : ℕ) (l : List ℕ) → AllBytes l → AllStorable z (slotsN z n l)
   unfolding slotsN AllStorable
   storable-slotsN zero l h = tt
   storable-slotsN (suc n) l h = (slotOf-storable z k (take z l) (length-take-most z l) (bytes-take z l h), storable-slotsN n (drop z l) (bytes-drop z l h))
 
   -- the slots of bytes can be held by bytes
-  pub slots-storable : (l : List ℕ) → Bytes l → AllStorable z (lineSlots z l)
+  pub slots-storable : (l : List ℕ) → AllBytes l → AllStorable z (lineSlots z l)
   unfolding slots
   slots-storable l h = storable-slotsN (count z l) l h
 

@@ -7,7 +7,7 @@ use native.Mathlib.Omega.{arith}
 use borrow.Author.Tests.{lt-ltb, le-ltb}
 use lib.Bits.{bitOr, and-le-l, and-le-r, or-add-and, or-lt, or-mod, or-shr}
 use lib.Dec.{ltb}
-use Rattle.slots.specs.Checks.{anyOutOfRange}
+use Rattle.slots.specs.code.Checks.{badFields}
 
 -- the bits of two numbers together are above 2 ^ k - 1 where one of the numbers is
 or-above : (k m a b : ℕ) → suc m ≡ 2 ^ k → ltb m (bitOr a b) ≡ (ltb m a || ltb m b)
@@ -29,7 +29,7 @@ three false false true false false z = refl
 three false false false x y z = refl
 
 -- so of the small fields of two slots, one is out of range where their bits together are
-pub or-out : (a b : ℕ) → anyOutOfRange (bitOr a b) ≡ (anyOutOfRange a || anyOutOfRange b)
+pub or-out : (a b : ℕ) → badFields (bitOr a b) ≡ (badFields a || badFields b)
 or-out a b =
     rw (
       or-mod a b 8,
@@ -44,7 +44,7 @@ or-out a b =
     (three (ltb 7 (a % 256)) (ltb 15 (a / 256 % 256)) (ltb 7 (a / 65536 % 256)) (ltb 7 (b % 256)) (ltb 15 (b / 256 % 256)) (ltb 7 (b / 65536 % 256)))
 
 -- four bytes as one number
-pub bytes-out : (a b c d : ℕ) → a < 256 → b < 256 → c < 256 → anyOutOfRange (a + b * 256 + c * 65536 + d * 16777216) ≡ (ltb 7 a || (ltb 15 b || ltb 7 c))
+pub bytes-out : (a b c d : ℕ) → a < 256 → b < 256 → c < 256 → badFields (a + b * 256 + c * 65536 + d * 16777216) ≡ (ltb 7 a || (ltb 15 b || ltb 7 c))
 bytes-out a b c d ha hb hc =
     let n = a + b * 256 + c * 65536 + d * 16777216 in
     let high : n / 256 ≡ b + c * 256 + d * 65536 = omega arith in

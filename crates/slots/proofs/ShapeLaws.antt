@@ -10,14 +10,15 @@ use Rattle.ints.specs.Choice.{if_then_else_}
 use lib.Dec.{eqb}
 use Rattle.ints.proofs.TestLaws.{clash}
 use Rattle.slots.specs.Slot.{clusteredSize, known, slotSize}
-use Rattle.slots.specs.Line.{count, Fits, Inside, shapeOf, shapeWith}
-use Rattle.slots.specs.Checks.{cutOf, misshapen, mostSlots, uneven}
+use Rattle.slots.specs.Line.{count, shapeOf, shapeWith}
+use Rattle.slots.specs.code.Shape.{Fits, Inside, cutOf}
+use Rattle.slots.specs.Checks.{badLine, mostSlots, badLength}
 use Rattle.slots.specs.declared.shape.Cut.{Cut}
 use Rattle.slots.specs.declared.shape.Cut.the-variants.{Slots, Bad}
 use Rattle.slots.proofs.LineLaws.{known-size, shapely}
 
 abbrev cut : ℕ → ℕ → Cut
-cut z n = if uneven z n then Bad else Slots (n / z)
+cut z n = if badLength z n then Bad else Slots (n / z)
 
 or-true : (a : Bool) → a || true ≡ true
 or-true true = refl
@@ -39,13 +40,13 @@ no-size z l h k = rw (ne-eqb z slotSize h, ne-eqb z clusteredSize k)
 
 -- ---- what is known of a line once it is cut: it has n slots of z bytes
 pub record Whole (z : ℕ) (l : List ℕ) (n : ℕ) : Type 0 where
-  pub good : misshapen z l ≡ false
+  pub good : badLine z l ≡ false
   pub shape-is : shapeWith z n ≡ shapeOf z l
   pub fits : Fits (shapeWith z n) l
   pub size-known : known z ≡ true
 
 module _ (z : ℕ) (l : List ℕ) where
-  whole-of : (b : Bool) → misshapen z l ≡ b → (n : ℕ) → Slots n ≡ (if b then Bad else Slots (count z l)) → Whole z l n
+  whole-of : (b : Bool) → badLine z l ≡ b → (n : ℕ) → Slots n ≡ (if b then Bad else Slots (count z l)) → Whole z l n
   whole-of true e n is = clash (cc)
   whole-of false e n is =
       let many : n ≡ count z l = cc in
@@ -53,14 +54,14 @@ module _ (z : ℕ) (l : List ℕ) where
       record { good = e; shape-is = shape; fits = rw shape (shapely z l e); size-known = known-size z l e }
 
   pub whole : (n : ℕ) → Slots n ≡ cutOf z l → Whole z l n
-  whole n is = whole-of (misshapen z l) refl n is
+  whole n is = whole-of (badLine z l) refl n is
 
-  bad-of : (b : Bool) → misshapen z l ≡ b → Bad ≡ (if b then Bad else Slots (count z l)) → misshapen z l ≡ true
+  bad-of : (b : Bool) → badLine z l ≡ b → Bad ≡ (if b then Bad else Slots (count z l)) → badLine z l ≡ true
   bad-of true e is = e
   bad-of false e is = clash (cc)
 
-  pub not-whole : Bad ≡ cutOf z l → misshapen z l ≡ true
-  not-whole is = bad-of (misshapen z l) refl is
+  pub not-whole : Bad ≡ cutOf z l → badLine z l ≡ true
+  not-whole is = bad-of (badLine z l) refl is
 
 -- a slot below the count is one of the line's
 pub whole-inside : {z : ℕ} {l : List ℕ} {n : ℕ} → Whole z l n → (i : ℕ) → i < n → Inside (shapeWith z n) l i

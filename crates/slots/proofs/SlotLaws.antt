@@ -7,12 +7,13 @@ use native.Mathlib.Omega.{arith}
 use borrow.Author.Tests.{eqb-true}
 use lib.Dec.{eqb}
 use lib.ListN.{length, getD, take, drop, length-append, List·getD-eq-default, take-append-drop}
-use Rattle.ints.specs.BigEndian.{Bytes, digits, natAt}
+use Rattle.ints.specs.BigEndian.{AllBytes, digits, natAt}
 use Rattle.ints.specs.Signed.{intAt}
 use Rattle.ints.proofs.BigEndianLaws.{digits-natAt, length-digits, natAt-digits, natAt-fits}
 use Rattle.ints.proofs.SignedLaws.{digits-intAt, intAt-digits, intAt-in}
 use Rattle.ints.proofs.TestLaws.{clash}
-use Rattle.slots.specs.Slot.{Slot, bytesOf, clusteredSize, known, plainBytes, slotOf, slotSize, Storable}
+use Rattle.slots.specs.Slot.{Slot, bytesOf, clusteredSize, known, plainBytes, slotOf, slotSize}
+use Rattle.slots.specs.theorems.Storable.{Storable}
 use Rattle.slots.specs.Fields.{withCluster}
 use Rattle.slots.proofs.Cells.{by-all-cells, by-cells, cells}
 
@@ -35,10 +36,10 @@ size-wide = by-size (λ z. slotSize ≤ z) (omega arith) (omega arith)
 
 -- ---- the first 24 bytes, which every slot has
 -- they are the bytes of the slot that was read from them
-plain-of : (p : List ℕ) → slotSize ≤ length p → Bytes p → plainBytes (slotOf p) ≡ take slotSize p
+plain-of : (p : List ℕ) → slotSize ≤ length p → AllBytes p → plainBytes (slotOf p) ≡ take slotSize p
 unfolding plainBytes slotOf
 plain-of =
-    by-cells (λ (p : List ℕ). Bytes p → plainBytes (slotOf p) ≡ take slotSize p)
+    by-cells (λ (p : List ℕ). AllBytes p → plainBytes (slotOf p) ≡ take slotSize p)
     (λ g r h.
     let p : List ℕ = cells slotSize g r in
     rw (
@@ -76,14 +77,14 @@ no-cluster : (p : List ℕ) → length p ≡ slotSize → digits 0 (natAt 4 p sl
 unfolding digits
 no-cluster = by-all-cells slotSize (λ (p : List ℕ). digits 0 (natAt 4 p slotSize) ≡ drop slotSize p) (λ g. refl)
 
-four-cluster : (p : List ℕ) → length p ≡ clusteredSize → Bytes p → digits 4 (natAt 4 p slotSize) ≡ drop slotSize p
+four-cluster : (p : List ℕ) → length p ≡ clusteredSize → AllBytes p → digits 4 (natAt 4 p slotSize) ≡ drop slotSize p
 four-cluster =
-    by-all-cells clusteredSize (λ (p : List ℕ). Bytes p → digits 4 (natAt 4 p slotSize) ≡ drop slotSize p)
+    by-all-cells clusteredSize (λ (p : List ℕ). AllBytes p → digits 4 (natAt 4 p slotSize) ≡ drop slotSize p)
     (λ g h. digits-natAt 4 (cells clusteredSize g []) slotSize h (omega arith))
 
-cluster-of : (z : ℕ) → known z ≡ true → (p : List ℕ) → length p ≡ z → Bytes p → digits (z - slotSize) (natAt 4 p slotSize) ≡ drop slotSize p
+cluster-of : (z : ℕ) → known z ≡ true → (p : List ℕ) → length p ≡ z → AllBytes p → digits (z - slotSize) (natAt 4 p slotSize) ≡ drop slotSize p
 cluster-of =
-    by-size (λ z. (p : List ℕ) → length p ≡ z → Bytes p → digits (z - slotSize) (natAt 4 p slotSize) ≡ drop slotSize p)
+    by-size (λ z. (p : List ℕ) → length p ≡ z → AllBytes p → digits (z - slotSize) (natAt 4 p slotSize) ≡ drop slotSize p)
     (λ p e h. no-cluster p e)
     four-cluster
 
@@ -107,15 +108,15 @@ pub plain-cluster : (p : List ℕ) → length p ≤ slotSize → slotOf p .clust
 unfolding slotOf
 plain-cluster = no-cluster-in
 
-cluster-in : (z : ℕ) → known z ≡ true → (p : List ℕ) → length p ≤ z → Bytes p → natAt 4 p slotSize < 256 ^ (z - slotSize)
+cluster-in : (z : ℕ) → known z ≡ true → (p : List ℕ) → length p ≤ z → AllBytes p → natAt 4 p slotSize < 256 ^ (z - slotSize)
 cluster-in =
-    by-size (λ z. (p : List ℕ) → length p ≤ z → Bytes p → natAt 4 p slotSize < 256 ^ (z - slotSize))
+    by-size (λ z. (p : List ℕ) → length p ≤ z → AllBytes p → natAt 4 p slotSize < 256 ^ (z - slotSize))
     (λ p e h. omega (arith, no-cluster-in p e))
     (λ p e h. natAt-fits 4 p slotSize h)
 
 -- ---- both
 -- the bytes of the slot of some bytes are those bytes
-pub bytesOf-slotOf : (z : ℕ) → known z ≡ true → (p : List ℕ) → length p ≡ z → Bytes p → bytesOf z (slotOf p) ≡ p
+pub bytesOf-slotOf : (z : ℕ) → known z ≡ true → (p : List ℕ) → length p ≡ z → AllBytes p → bytesOf z (slotOf p) ≡ p
 unfolding slotOf
 bytesOf-slotOf z k p e h =
     rw (plain-of p (omega (arith, size-wide z k)) h, cluster-of z k p e h) (take-append-drop slotSize p)
@@ -128,7 +129,7 @@ pub length-bytesOf : (z : ℕ) → known z ≡ true → (s : Slot) → length (b
 length-bytesOf z k s = rw (length-append (plainBytes s) (digits (z - slotSize) (s .cluster)), length-plain s, length-digits (z - slotSize) (s .cluster)) (omega (arith, size-wide z k))
 
 -- what bytes hold can be held
-pub slotOf-storable : (z : ℕ) → known z ≡ true → (p : List ℕ) → length p ≤ z → Bytes p → Storable z (slotOf p)
+pub slotOf-storable : (z : ℕ) → known z ≡ true → (p : List ℕ) → length p ≤ z → AllBytes p → Storable z (slotOf p)
 unfolding slotOf
 slotOf-storable z k p e h =
     record {

@@ -44,3 +44,10 @@ other Y = X
 -- the cross axis, across the line
 abbrev pub cross : Direction → Axis
 cross d = other (main d)
+
+-- are the two axes the same?
+abbrev pub sameAxis : Axis → Axis → Bool
+sameAxis X X = true
+sameAxis X Y = false
+sameAxis Y X = false
+sameAxis Y Y = true

@@ -15,8 +15,8 @@ use Rattle.slots.specs.declared.fields.Measure.the-variants.{Advance, Of
 
 -- ---- what a slot is: glyph, ligature id, component, flags
 -- the slot with these, all else as it was
-abbrev pub named : ℕ → ℕ → ℕ → ℕ → Slot → Slot
-named g i c f s =
+abbrev pub withIdentity : ℕ → ℕ → ℕ → ℕ → Slot → Slot
+withIdentity g i c f s =
     record {
       glyph = g;
       ligatureId = i;
@@ -32,7 +32,7 @@ named g i c f s =
     }
 
 abbrev pub withGlyph : ℕ → Slot → Slot
-withGlyph g s = named g (s .ligatureId) (s .component) (s .flags) s
+withGlyph g s = withIdentity g (s .ligatureId) (s .component) (s .flags) s
 
 -- is the flag set in a byte of flags? bit 0 seen, bit 1 mark, bit 2 multiplied
 abbrev pub flagIn : Flag → ℕ → Bool
@@ -76,15 +76,15 @@ byteOf Flags s = s .flags
 byteOf AttachType s = s .attachType
 
 abbrev pub withByte : ByteField → ℕ → Slot → Slot
-withByte LigatureId n s = named (s .glyph) n (s .component) (s .flags) s
-withByte Component n s = named (s .glyph) (s .ligatureId) n (s .flags) s
-withByte Flags n s = named (s .glyph) (s .ligatureId) (s .component) n s
+withByte LigatureId n s = withIdentity (s .glyph) n (s .component) (s .flags) s
+withByte Component n s = withIdentity (s .glyph) (s .ligatureId) n (s .flags) s
+withByte Flags n s = withIdentity (s .glyph) (s .ligatureId) (s .component) n s
 withByte AttachType n s = attached n (s .chain) s
 
 -- ---- where it is: advances and offsets
 -- the slot with these, all else as it was
-abbrev pub moved : ℤ → ℤ → ℤ → ℤ → Slot → Slot
-moved xa ya xo yo s =
+abbrev pub withPlace : ℤ → ℤ → ℤ → ℤ → Slot → Slot
+withPlace xa ya xo yo s =
     record {
       glyph = s .glyph;
       ligatureId = s .ligatureId;
@@ -107,10 +107,10 @@ measure Offset X s = s .xOffset
 measure Offset Y s = s .yOffset
 
 abbrev pub withMeasure : Measure → Axis → ℤ → Slot → Slot
-withMeasure Advance X z s = moved z (s .yAdvance) (s .xOffset) (s .yOffset) s
-withMeasure Advance Y z s = moved (s .xAdvance) z (s .xOffset) (s .yOffset) s
-withMeasure Offset X z s = moved (s .xAdvance) (s .yAdvance) z (s .yOffset) s
-withMeasure Offset Y z s = moved (s .xAdvance) (s .yAdvance) (s .xOffset) z s
+withMeasure Advance X z s = withPlace z (s .yAdvance) (s .xOffset) (s .yOffset) s
+withMeasure Advance Y z s = withPlace (s .xAdvance) z (s .xOffset) (s .yOffset) s
+withMeasure Offset X z s = withPlace (s .xAdvance) (s .yAdvance) z (s .yOffset) s
+withMeasure Offset Y z s = withPlace (s .xAdvance) (s .yAdvance) (s .xOffset) z s
 
 abbrev pub advance : Axis → Slot → ℤ
 advance a s = measure Advance a s
@@ -135,20 +135,3 @@ withCluster n s =
       yOffset = s .yOffset;
       cluster = n;
     }
-
--- ---- where in a slot's bytes a field is
--- a number of two bytes with its bytes exchanged
-abbrev pub swapped : ℕ → ℕ
-swapped n = n % 256 * 256 + n / 256
-
-abbrev pub byteAt : ByteField → ℕ
-byteAt LigatureId = 2
-byteAt Component = 3
-byteAt Flags = 4
-byteAt AttachType = 5
-
-abbrev pub measureAt : Measure → Axis → ℕ
-measureAt Advance X = 8
-measureAt Advance Y = 12
-measureAt Offset X = 16
-measureAt Offset Y = 20

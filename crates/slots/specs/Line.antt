@@ -1,9 +1,8 @@
 -- The line: slots one after another, no header. Assumes nothing.
 use mathlib.Core.List.{List, [], _∷_, _++_}
-use mathlib.Core.Path.{_≡_}
-use Prim.Native.Nat.{ℕ, zero, suc, _*_, _/_, _<_, _≤_}
+use Prim.Native.Nat.{ℕ, zero, suc, _/_}
 use lib.ListN.{length, getD, set, take, drop}
-use Rattle.slots.specs.Slot.{Slot, bytesOf, noSlot, slotOf, slotSize, Storable}
+use Rattle.slots.specs.Slot.{Slot, bytesOf, noSlot, slotOf}
 use Rattle.slots.specs.declared.shape.Shape.{Shape}
 
 -- how many slots of z bytes a line of bytes has
@@ -14,23 +13,9 @@ count z l = length l / z
 abbrev pub shapeWith : ℕ → ℕ → Shape
 shapeWith z n = record { size = z; count = n }
 
--- the shape of a line of bytes; and of a part of it of n slots
+-- the shape of a line of bytes
 abbrev pub shapeOf : ℕ → List ℕ → Shape
 shapeOf z l = shapeWith z (count z l)
-
-abbrev pub partShape : Shape → ℕ → Shape
-partShape w n = shapeWith (w .size) n
-
--- bytes that have the shape: slots of at least 24 bytes, and exactly their bytes; `few`, which these two imply, bounds the number of slots by the length
-pub record Fits (w : Shape) (l : List ℕ) : Type 0 where
-  pub wide : slotSize ≤ w .size
-  pub whole : length l ≡ w .count * w .size
-  pub few : w .count * slotSize ≤ length l
-
--- and slot i is one of them
-pub record Inside (w : Shape) (l : List ℕ) (i : ℕ) : Type 0 where
-  pub fits : Fits w l
-  pub below : i < w .count
 
 -- the first n slots of a line of bytes, of z bytes each
 unfoldable pub slotsN : ℕ → ℕ → List ℕ → List Slot
@@ -49,11 +34,6 @@ lineSlots z l = slots (shapeOf z l) l
 unfoldable pub bytes : ℕ → List Slot → List ℕ
 bytes z [] = []
 bytes z (s ∷ ss) = bytesOf z s ++ bytes z ss
-
--- every slot can be held by z bytes
-unfoldable pub AllStorable : ℕ → List Slot → Type 0
-AllStorable z [] = Unit {0}
-AllStorable z (s ∷ ss) = Storable z s × AllStorable z ss
 
 -- slot i of a line
 abbrev pub slot : List Slot → ℕ → Slot

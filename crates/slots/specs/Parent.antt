@@ -6,15 +6,27 @@ use lib.Dec.{eqb, ltb}
 use lib.IntN.{ℤ, pos, negsuc, natAbs, _+ℤ_}
 use lib.ListN.{length}
 use Rattle.ints.specs.Choice.{if_then_else_}
+use Rattle.ints.specs.Limits.{half16}
 use Rattle.slots.specs.Slot.{Slot}
 use Rattle.slots.specs.Line.{slot, update}
 use Rattle.slots.specs.Fields.{withChain}
 use Rattle.slots.specs.declared.parent.Parent.{Parent}
-use Rattle.slots.specs.declared.parent.Parent.the-variants.{None, Outside, At}
+use Rattle.slots.specs.declared.parent.Parent.the-variants.{None, Outside, InLine}
+
+-- how a slot hangs on its parent: the attach types of a mark and of a cursive glyph
+abbrev pub markType : ℕ
+markType = 1
+
+abbrev pub cursiveType : ℕ
+cursiveType = 2
+
+-- a chain has 16 bits: it reaches so many slots back, and one fewer ahead
+abbrev pub chainLimit : ℕ
+chainLimit = half16
 
 -- the slot at place z of a line of n slots
 abbrev pub placed : ℕ → ℤ → Parent
-placed n (pos j) = if ltb j n then At j else Outside
+placed n (pos j) = if ltb j n then InLine j else Outside
 placed n (negsuc j) = Outside
 
 -- what slot i of a line of n slots hangs on, by its chain: nothing where the chain is 0
@@ -39,4 +51,4 @@ cleared ss i = update i (withChain (pos 0)) ss
 abbrev pub byParent : {A : Type 0} → Parent → A → A → (ℕ → A) → A
 byParent None a b f = a
 byParent Outside a b f = b
-byParent (At j) a b f = f j
+byParent (InLine j) a b f = f j

@@ -1,15 +1,16 @@
 -- A glyph slot, and its 24 bytes or 28. Assumes nothing.
 use mathlib.Core.Bool.{Bool, _||_}
 use mathlib.Core.List.{List, [], _∷_, _++_}
-use Prim.Native.Nat.{ℕ, _-_, _^_, _<_}
+use Prim.Native.Nat.{ℕ, _-_}
 use lib.Dec.{eqb}
 use lib.IntN.{ℤ, pos}
 use lib.ListN.{getD}
 use Rattle.ints.specs.BigEndian.{digits, natAt}
-use Rattle.ints.specs.Signed.{InBytes, intAt, pattern}
+use Rattle.ints.specs.Signed.{intAt, pattern}
 
--- the glyph; its ligature id and component; its flags (1 seen, 2 mark, 4 multiplied); how it is attached (1 mark, 2 cursive) and how many slots on
--- its parent is (0: not attached); its advances and its offsets; its cluster, which says what letter it came from
+-- the glyph; its ligature id and component; its flags (1 seen, 2 mark, 4 multiplied); how it is attached (1 mark, 2
+-- cursive) and how many slots on its parent is (0: not attached); its advances and its offsets; its cluster, which says
+-- what letter it came from
 pub record Slot : Type 0 where
   pub glyph : ℕ
   pub ligatureId : ℕ
@@ -34,21 +35,55 @@ clusteredSize = 28
 abbrev pub known : ℕ → Bool
 known z = eqb z slotSize || eqb z clusteredSize
 
+-- where each field starts in a slot's bytes
+abbrev pub glyphAt : ℕ
+glyphAt = 0
+
+abbrev pub ligatureIdAt : ℕ
+ligatureIdAt = 2
+
+abbrev pub componentAt : ℕ
+componentAt = 3
+
+abbrev pub flagsAt : ℕ
+flagsAt = 4
+
+abbrev pub attachTypeAt : ℕ
+attachTypeAt = 5
+
+abbrev pub chainAt : ℕ
+chainAt = 6
+
+abbrev pub xAdvanceAt : ℕ
+xAdvanceAt = 8
+
+abbrev pub yAdvanceAt : ℕ
+yAdvanceAt = 12
+
+abbrev pub xOffsetAt : ℕ
+xOffsetAt = 16
+
+abbrev pub yOffsetAt : ℕ
+yOffsetAt = 20
+
+abbrev pub clusterAt : ℕ
+clusterAt = 24
+
 -- the slot in 24 bytes or 28, numbers big-endian: 24 bytes have cluster 0
 unfoldable pub slotOf : List ℕ → Slot
 slotOf p =
     record {
-      glyph = natAt 2 p 0;
-      ligatureId = getD p 2 0;
-      component = getD p 3 0;
-      flags = getD p 4 0;
-      attachType = getD p 5 0;
-      chain = intAt 2 p 6;
-      xAdvance = intAt 4 p 8;
-      yAdvance = intAt 4 p 12;
-      xOffset = intAt 4 p 16;
-      yOffset = intAt 4 p 20;
-      cluster = natAt 4 p 24;
+      glyph = natAt 2 p glyphAt;
+      ligatureId = getD p ligatureIdAt 0;
+      component = getD p componentAt 0;
+      flags = getD p flagsAt 0;
+      attachType = getD p attachTypeAt 0;
+      chain = intAt 2 p chainAt;
+      xAdvance = intAt 4 p xAdvanceAt;
+      yAdvance = intAt 4 p yAdvanceAt;
+      xOffset = intAt 4 p xOffsetAt;
+      yOffset = intAt 4 p yOffsetAt;
+      cluster = natAt 4 p clusterAt;
     }
 
 -- the first 24 bytes of a slot: all but its cluster
@@ -65,20 +100,6 @@ plainBytes s =
 -- the bytes of a slot of z bytes: the cluster has those that are left, four of 28 and none of 24
 abbrev pub bytesOf : ℕ → Slot → List ℕ
 bytesOf z s = plainBytes s ++ digits (z - slotSize) (s .cluster)
-
--- what z bytes can hold
-pub record Storable (z : ℕ) (s : Slot) : Type 0 where
-  pub glyph-fits : s .glyph < 65536
-  pub id-fits : s .ligatureId < 256
-  pub component-fits : s .component < 256
-  pub flags-fit : s .flags < 256
-  pub type-fits : s .attachType < 256
-  pub chain-fits : InBytes 2 (s .chain)
-  pub x-advance-fits : InBytes 4 (s .xAdvance)
-  pub y-advance-fits : InBytes 4 (s .yAdvance)
-  pub x-offset-fits : InBytes 4 (s .xOffset)
-  pub y-offset-fits : InBytes 4 (s .yOffset)
-  pub cluster-fits : s .cluster < 256 ^ (z - slotSize)
 
 -- a slot of zeros: what is read outside a line
 abbrev pub noSlot : Slot

@@ -1,5 +1,16 @@
 // A slot's fields, read from and written to a line by the slot's number.
 use crate::axis::Axis;
+use crate::layout::ATTACH_TYPE;
+use crate::layout::CHAIN;
+use crate::layout::CHAIN_LOW;
+use crate::layout::COMPONENT;
+use crate::layout::FLAGS;
+use crate::layout::GLYPH;
+use crate::layout::LIGATURE_ID;
+use crate::layout::X_ADVANCE;
+use crate::layout::X_OFFSET;
+use crate::layout::Y_ADVANCE;
+use crate::layout::Y_OFFSET;
 use crate::shape::Shape;
 use ints::big_endian::Signed;
 use ints::big_endian::read_i16;
@@ -15,10 +26,15 @@ ghost use lib.IntN.{natAbs};
 ghost use lib.ListN.{length};
 ghost use lib.Seq.{slice};
 ghost use Rattle.ints.specs.BigEndian.{natAt};
-ghost use Rattle.ints.specs.Signed.{InBytes, signed, val};
-ghost use Rattle.slots.specs.Slot.{slotOf, slotSize};
-ghost use Rattle.slots.specs.Line.{Fits, Inside, partShape, slot, slots, update};
-ghost use Rattle.slots.specs.Fields.{byteAt, byteOf, cursiveBit, flagOf, measure, measureAt, swapped, withByte, withChain, withGlyph, withMeasure};
+ghost use Rattle.ints.specs.Limits.{half16, whole16};
+ghost use Rattle.ints.specs.Signed.{InBytes, signed};
+ghost use Rattle.ints.specs.code.Signed.{val};
+ghost use Rattle.slots.specs.Slot.{chainAt, slotOf, slotSize};
+ghost use Rattle.slots.specs.code.Shape.{Fits, Inside, partShape};
+ghost use Rattle.slots.specs.Line.{slot, slots, update};
+ghost use Rattle.slots.specs.code.Fields.{byteAt, measureAt, swapped};
+ghost use Rattle.slots.specs.Fields.{byteOf, cursiveBit, flagOf, measure, withByte, withChain, withGlyph};
+ghost use Rattle.slots.specs.Fields.{withMeasure};
 ghost use Rattle.slots.specs.Parent.{isAttached};
 
 // The fields of one byte.
@@ -44,7 +60,8 @@ pub enum Measure {
 // The slots from i up to j, j not included, as a line of their own.
 pub fn slots_between<'a>(line: &'a [u8], shape: Shape, i: usize, j: usize) -> &'a [u8]
     requires { ⌜ Fits shape (now line) × (i ≤ j) × (j ≤ shape .count) ⌝ }
-    ensures { λ r. ⌜ (slots (partShape shape (j - i)) (now r) ≡ slice i j (slots shape (now (line .entry)))) × Fits (partShape shape (j - i)) (now r) ⌝ }
+    ensures { λ r. ⌜ (slots (partShape shape (j - i)) (now r) ≡ slice i j (slots shape (now (line .entry))))
+        × Fits (partShape shape (j - i)) (now r) ⌝ }
 {
     let size = shape.size;
     let a = i * size;
@@ -52,44 +69,21 @@ pub fn slots_between<'a>(line: &'a [u8], shape: Shape, i: usize, j: usize) -> &'
     &line[a..b]
 }
 
-// The bytes of slot i.
-fn slot_at<'a>(line: &'a [u8], shape: Shape, i: usize) -> &'a [u8]
-    requires { ⌜ Inside shape (now line) i ⌝ }
-    ensures { λ r. ⌜ (slotOf (now r) ≡ slot (slots shape (now (line .entry))) i) × (slotSize ≤ length (now r)) ⌝ }
-{
-    let size = shape.size;
-    let a = i * size;
-    let b = a + size;
-    &line[a..b]
-}
-
 pub fn glyph(line: &[u8], shape: Shape, i: usize) -> u32
     requires { ⌜ Inside shape (now line) i ⌝ }
-    ensures { λ r. ⌜ (r ≡ slot (slots shape (now (line .entry))) i .glyph) × (r < 65536) ⌝ }
+    ensures { λ r. ⌜ (r ≡ slot (slots shape (now (line .entry))) i .glyph) × (r < whole16) ⌝ }
 {
-    read_u16(slot_at(line, shape, i), 0)
+    read_u16(slot_at(line, shape, i), GLYPH)
 }
 
 pub fn set_glyph(line: &mut [u8], shape: Shape, i: usize, n: u32)
-    requires { ⌜ Inside shape (now line) i × (n < 65536) ⌝ }
+    requires { ⌜ Inside shape (now line) i × (n < whole16) ⌝ }
     ensures { λ _. ⌜ slots shape (now (line .exit)) ≡ update i (withGlyph n) (slots shape (now (line .entry))) ⌝ }
 {
     let size = shape.size;
     let a = i * size;
     let b = a + size;
-    write_u16(&mut line[a..b], 0, n);
-}
-
-// Where in a slot a field of one byte is.
-fn byte_at(f: ByteField) -> usize
-    ensures { λ r. ⌜ (r ≡ byteAt f) × (r < slotSize) ⌝ }
-{
-    match f {
-        ByteField::LigatureId => 2,
-        ByteField::Component => 3,
-        ByteField::Flags => 4,
-        ByteField::AttachType => 5,
-    }
+    write_u16(&mut line[a..b], GLYPH, n);
 }
 
 pub fn get_byte(line: &[u8], shape: Shape, i: usize, f: ByteField) -> u8
@@ -99,14 +93,6 @@ pub fn get_byte(line: &[u8], shape: Shape, i: usize, f: ByteField) -> u8
     let s = slot_at(line, shape, i);
     let at = byte_at(f);
     s[at]
-}
-
-fn put_byte(slot: &mut [u8], f: ByteField, n: u8)
-    requires { ⌜ slotSize ≤ length (now slot) ⌝ }
-    ensures { λ _. ⌜ slotOf (now (slot .exit)) ≡ withByte f n (slotOf (now (slot .entry))) ⌝ }
-{
-    let at = byte_at(f);
-    slot[at] = n;
 }
 
 pub fn set_byte(line: &mut [u8], shape: Shape, i: usize, f: ByteField, n: u8)
@@ -141,25 +127,9 @@ pub fn cursive_bit(kind: u8) -> bool
 
 pub fn chain(line: &[u8], shape: Shape, i: usize) -> Signed
     requires { ⌜ Inside shape (now line) i ⌝ }
-    ensures { λ r. ⌜ (val r ≡ slot (slots shape (now (line .entry))) i .chain) × (natAbs (val r) ≤ 32768) ⌝ }
+    ensures { λ r. ⌜ (val r ≡ slot (slots shape (now (line .entry))) i .chain) × (natAbs (val r) ≤ half16) ⌝ }
 {
-    read_i16(slot_at(line, shape, i), 6)
-}
-
-// The two bytes of a slot's chain as one number, the first lowest: the order in which they are one load.
-fn low_first(slot: &[u8]) -> u32
-    requires { ⌜ slotSize ≤ length (now slot) ⌝ }
-    ensures { λ r. ⌜ (swapped r ≡ natAt 2 (now (slot .entry)) 6) × (r < 65536) ⌝ }
-{
-    wide(slot[6]) + wide(slot[7]) * 256
-}
-
-// The same of slot i. For a test of 0 the bytes need not be swapped.
-pub fn chain_bytes(line: &[u8], shape: Shape, i: usize) -> u32
-    requires { ⌜ Inside shape (now line) i ⌝ }
-    ensures { λ r. ⌜ (signed 2 (swapped r) ≡ slot (slots shape (now (line .entry))) i .chain) × (r < 65536) ⌝ }
-{
-    low_first(slot_at(line, shape, i))
+    read_i16(slot_at(line, shape, i), CHAIN)
 }
 
 // Is slot i attached?
@@ -170,6 +140,14 @@ pub fn is_attached(line: &[u8], shape: Shape, i: usize) -> bool
     chain_bytes(line, shape, i) != 0
 }
 
+// The same of slot i. For a test of 0 the bytes need not be swapped.
+pub fn chain_bytes(line: &[u8], shape: Shape, i: usize) -> u32
+    requires { ⌜ Inside shape (now line) i ⌝ }
+    ensures { λ r. ⌜ (signed 2 (swapped r) ≡ slot (slots shape (now (line .entry))) i .chain) × (r < whole16) ⌝ }
+{
+    low_first(slot_at(line, shape, i))
+}
+
 pub fn set_chain(line: &mut [u8], shape: Shape, i: usize, v: Signed)
     requires { ⌜ Inside shape (now line) i × InBytes 2 (val v) ⌝ }
     ensures { λ _. ⌜ slots shape (now (line .exit)) ≡ update i (withChain (val v)) (slots shape (now (line .entry))) ⌝ }
@@ -177,23 +155,7 @@ pub fn set_chain(line: &mut [u8], shape: Shape, i: usize, v: Signed)
     let size = shape.size;
     let a = i * size;
     let b = a + size;
-    write_i16(&mut line[a..b], 6, v);
-}
-
-// Where in a slot an advance or an offset is.
-fn measure_at(m: Measure, a: Axis) -> usize
-    ensures { λ r. ⌜ (r ≡ measureAt m a) × (r + 4 ≤ slotSize) ⌝ }
-{
-    match m {
-        Measure::Advance => match a {
-            Axis::X => 8,
-            Axis::Y => 12,
-        },
-        Measure::Offset => match a {
-            Axis::X => 16,
-            Axis::Y => 20,
-        },
-    }
+    write_i16(&mut line[a..b], CHAIN, v);
 }
 
 // The advance or the offset of slot i on an axis.
@@ -206,11 +168,67 @@ pub fn get(line: &[u8], shape: Shape, i: usize, m: Measure, a: Axis) -> Signed
 
 pub fn set(line: &mut [u8], shape: Shape, i: usize, m: Measure, a: Axis, v: Signed)
     requires { ⌜ Inside shape (now line) i ⌝ }
-    ensures { λ _. ⌜ slots shape (now (line .exit)) ≡ update i (withMeasure m a (val v)) (slots shape (now (line .entry))) ⌝ }
+    ensures { λ _. ⌜ slots shape (now (line .exit)) ≡ update i (withMeasure m a (val v))
+        (slots shape (now (line .entry))) ⌝ }
 {
     let at = measure_at(m, a);
     let size = shape.size;
     let from = i * size;
     let to = from + size;
     write_i32(&mut line[from..to], at, v);
+}
+
+// The bytes of slot i.
+fn slot_at<'a>(line: &'a [u8], shape: Shape, i: usize) -> &'a [u8]
+    requires { ⌜ Inside shape (now line) i ⌝ }
+    ensures { λ r. ⌜ (slotOf (now r) ≡ slot (slots shape (now (line .entry))) i) × (slotSize ≤ length (now r)) ⌝ }
+{
+    let size = shape.size;
+    let a = i * size;
+    let b = a + size;
+    &line[a..b]
+}
+
+fn put_byte(slot: &mut [u8], f: ByteField, n: u8)
+    requires { ⌜ slotSize ≤ length (now slot) ⌝ }
+    ensures { λ _. ⌜ slotOf (now (slot .exit)) ≡ withByte f n (slotOf (now (slot .entry))) ⌝ }
+{
+    let at = byte_at(f);
+    slot[at] = n;
+}
+
+// The two bytes of a slot's chain as one number, the first lowest: the order in which they are one load.
+fn low_first(slot: &[u8]) -> u32
+    requires { ⌜ slotSize ≤ length (now slot) ⌝ }
+    ensures { λ r. ⌜ (swapped r ≡ natAt 2 (now (slot .entry)) chainAt) × (r < whole16) ⌝ }
+{
+    wide(slot[CHAIN]) + wide(slot[CHAIN_LOW]) * 256
+}
+
+// Where in a slot a field of one byte is.
+fn byte_at(f: ByteField) -> usize
+    ensures { λ r. ⌜ (r ≡ byteAt f) × (r < slotSize) ⌝ }
+{
+    match f {
+        ByteField::LigatureId => LIGATURE_ID,
+        ByteField::Component => COMPONENT,
+        ByteField::Flags => FLAGS,
+        ByteField::AttachType => ATTACH_TYPE,
+    }
+}
+
+// Where in a slot an advance or an offset is.
+fn measure_at(m: Measure, a: Axis) -> usize
+    ensures { λ r. ⌜ (r ≡ measureAt m a) × (r + 4 ≤ slotSize) ⌝ }
+{
+    match m {
+        Measure::Advance => match a {
+            Axis::X => X_ADVANCE,
+            Axis::Y => Y_ADVANCE,
+        },
+        Measure::Offset => match a {
+            Axis::X => X_OFFSET,
+            Axis::Y => Y_OFFSET,
+        },
+    }
 }

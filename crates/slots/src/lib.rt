@@ -1,6 +1,7 @@
-// Glyph slots: a line is slots of 24 bytes, or of 28 with a cluster (`GlyphPosition` and `GlyphInfo` in one). This crate and `moves` know a
-// slot's layout, and the moves of `gpos` its sizes; all others speak of slots by number.
+// Glyph slots: a line is slots of 24 bytes, or of 28 with a cluster (`GlyphPosition` and `GlyphInfo` in one). This
+// crate and `moves` know a slot's layout, and the moves of `gpos` its sizes; all others speak of slots by number.
 pub mod axis; // x and y, the four directions
+pub mod layout; // where each field stands in a slot's bytes
 pub mod shape; // how a line is cut into slots, refusal 1
 pub mod fields; // reading and writing a slot's fields
 pub mod parent; // what a slot hangs on

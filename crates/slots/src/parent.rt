@@ -4,24 +4,26 @@ use crate::shape::Shape;
 ghost use mathlib.Core.Path.{_≡_};
 ghost use Prim.Native.Nat.{_<_};
 ghost use lib.IntN.{pos, _-ℤ_};
+ghost use Rattle.ints.specs.Limits.{half16, whole16};
 ghost use Rattle.ints.specs.Signed.{signed};
-ghost use Rattle.slots.specs.Fields.{swapped};
-ghost use Rattle.slots.specs.Line.{Inside, slots};
+ghost use Rattle.slots.specs.code.Fields.{swapped};
+ghost use Rattle.slots.specs.code.Shape.{Inside};
+ghost use Rattle.slots.specs.Line.{slots};
 ghost use Rattle.slots.specs.Parent.{parent};
 
 pub enum Parent {
+    // Chain 0.
     None,
+    // Slot number plus chain is no slot of the line.
     Outside,
-    At(usize),
+    // This slot.
+    InLine(usize),
 }
 
-// A chain, given by its bytes, 2 ^ 15 higher: so it is never below 0.
-fn raised(bytes: u32) -> usize
-    requires { ⌜ bytes < 65536 ⌝ }
-    ensures { λ r. ⌜ (signed 2 (swapped bytes) ≡ pos r -ℤ pos 32768) × (r < 65536) ⌝ }
-{
-    ((bytes % 256 * 256 + bytes / 256 + 32768) % 65536) as usize
-}
+// A chain is read this much higher, so that it is never below 0: 2 ^ 15.
+const RAISE: u32 = 32768;
+
+const RAISED: usize = 32768;
 
 // What slot i hangs on: nothing, something outside the line, or a slot of the line.
 pub fn parent_of(line: &[u8], shape: Shape, i: usize) -> Parent
@@ -33,13 +35,21 @@ pub fn parent_of(line: &[u8], shape: Shape, i: usize) -> Parent
         return Parent::None;
     }
     let higher = i + raised(chain);
-    if higher < 32768 {
+    if higher < RAISED {
         return Parent::Outside;
     }
-    let j = higher - 32768;
+    let j = higher - RAISED;
     let n = shape.count;
     if n <= j {
         return Parent::Outside;
     }
-    Parent::At(j)
+    Parent::InLine(j)
+}
+
+// A chain, given by its bytes, 2 ^ 15 higher: so it is never below 0.
+fn raised(bytes: u32) -> usize
+    requires { ⌜ bytes < whole16 ⌝ }
+    ensures { λ r. ⌜ (signed 2 (swapped bytes) ≡ pos r -ℤ pos half16) × (r < whole16) ⌝ }
+{
+    ((bytes % 256 * 256 + bytes / 256 + RAISE) % 65536) as usize
 }

@@ -1,27 +1,38 @@
 // Starting a line (`position_start`): every chain and type becomes 0, and nothing else changes.
+use crate::layout::ATTACH_TYPE;
+use crate::layout::CHAIN;
+use crate::layout::CHAIN_LOW;
+use crate::layout::CLUSTERED_SIZE;
+use crate::layout::SLOT_SIZE;
 use crate::shape::Shape;
 ghost use mathlib.Core.Bool.{true};
 ghost use mathlib.Core.Path.{_≡_};
 ghost use Prim.Native.Nat.{_≤_};
 ghost use lib.ListN.{length};
 ghost use Rattle.slots.specs.Slot.{known, slotOf, slotSize};
-ghost use Rattle.slots.specs.Line.{Fits, shapeWith, slots};
+ghost use Rattle.slots.specs.code.Shape.{Fits};
+ghost use Rattle.slots.specs.Line.{shapeWith, slots};
 ghost use Rattle.slots.specs.Start.{started, unattached};
 
-// Chain and type of one slot are set to 0.
-fn clear(slot: &mut [u8])
-    requires { ⌜ slotSize ≤ length (now slot) ⌝ }
-    ensures { λ _. ⌜ slotOf (now (slot .exit)) ≡ unattached (slotOf (now (slot .entry))) ⌝ }
+// Each of the two sizes is a number that the compiler knows: the loop then takes fewer instructions.
+pub fn start_line(line: &mut [u8], shape: Shape)
+    requires { ⌜ Fits shape (now line) × (known (shape .size) ≡ true) ⌝ }
+    ensures { λ _. ⌜ slots shape (now (line .exit)) ≡ started (slots shape (now (line .entry))) ⌝ }
 {
-    slot[5] = 0;
-    slot[6] = 0;
-    slot[7] = 0;
+    let n = shape.count;
+    let size = shape.size;
+    if size == SLOT_SIZE {
+        clear_all(line, SLOT_SIZE, n);
+        return;
+    }
+    clear_all(line, CLUSTERED_SIZE, n);
 }
 
 // Each slot's bytes are lent on as a part that starts in the middle of the line.
 fn clear_all(line: &mut [u8], size: usize, n: usize)
     requires { ⌜ Fits (shapeWith size n) (now line) ⌝ }
-    ensures { λ _. ⌜ slots (shapeWith size n) (now (line .exit)) ≡ started (slots (shapeWith size n) (now (line .entry))) ⌝ }
+    ensures { λ _. ⌜ slots (shapeWith size n) (now (line .exit))
+        ≡ started (slots (shapeWith size n) (now (line .entry))) ⌝ }
 {
     let mut i = 0;
     while i < n {
@@ -32,16 +43,12 @@ fn clear_all(line: &mut [u8], size: usize, n: usize)
     }
 }
 
-// Each of the two sizes is a number that the compiler knows: the loop then takes fewer instructions.
-pub fn start_line(line: &mut [u8], shape: Shape)
-    requires { ⌜ Fits shape (now line) × (known (shape .size) ≡ true) ⌝ }
-    ensures { λ _. ⌜ slots shape (now (line .exit)) ≡ started (slots shape (now (line .entry))) ⌝ }
+// Chain and type of one slot are set to 0.
+fn clear(slot: &mut [u8])
+    requires { ⌜ slotSize ≤ length (now slot) ⌝ }
+    ensures { λ _. ⌜ slotOf (now (slot .exit)) ≡ unattached (slotOf (now (slot .entry))) ⌝ }
 {
-    let n = shape.count;
-    let size = shape.size;
-    if size == 24 {
-        clear_all(line, 24, n);
-        return;
-    }
-    clear_all(line, 28, n);
+    slot[ATTACH_TYPE] = 0;
+    slot[CHAIN] = 0;
+    slot[CHAIN_LOW] = 0;
 }

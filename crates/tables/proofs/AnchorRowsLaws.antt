@@ -7,7 +7,7 @@ use native.Mathlib.Nat.{mul-le-mul}
 use native.Mathlib.Omega.{arith}
 use lib.Dec.{leb}
 use lib.ListN.{length}
-use Rattle.ints.specs.BigEndian.{Bytes, natAt}
+use Rattle.ints.specs.BigEndian.{AllBytes, natAt}
 use Rattle.ints.specs.Choice.{if_then_else_}
 use Rattle.ints.proofs.BigEndianLaws.{natAt-fits}
 use Rattle.ints.proofs.TestLaws.{clash}
@@ -23,7 +23,7 @@ places-few rows columns h l =
     omega arith
 
 -- a number of rows that was read from bytes is one of 16 bits
-pub rows-few : (t : List ℕ) (columns n : ℕ) → Bytes t → rowsOf t columns ≡ Of n → n < 65536
+pub rows-few : (t : List ℕ) (columns n : ℕ) → AllBytes t → rowsOf t columns ≡ Of n → n < 65536
 rows-few t columns n b e =
     let h : natAt 2 t 0 < 65536 = natAt-fits 2 t 0 b in
     let w = known (leb 2 (length t) && leb (2 + 2 * (natAt 2 t 0 * columns)) (length t)) (natAt 2 t 0) n e in

@@ -10,9 +10,9 @@ use borrow.Author.Tests.{eq-eqb, le-ltb, leb-true, lt-ltb, ltb-false, ne-eqb}
 use Rattle.ints.specs.BigEndian.{natAt}
 use Rattle.ints.specs.Choice.{if_then_else_}
 use Rattle.ints.proofs.TestLaws.{and-left, and-right, clash}
-use Rattle.tables.specs.Spans.{ascends, firstHolding, glyphSpans, rangeSpans, spanAt, spans}
-use Rattle.tables.specs.Coverage.{coverageGood, coverageIndex, wholeSpans}
-use Rattle.tables.specs.declared.coverage.Covered.the-variants.{At, Not}
+use Rattle.tables.specs.Spans.{ascends, firstHolding, glyphSpans, rangeSpans, spanAt, spans, wholeSpans}
+use Rattle.tables.specs.Coverage.{coverageGood, coverageIndex}
+use Rattle.tables.specs.declared.coverage.Covered.the-variants.{Index, Not}
 use Rattle.tables.proofs.SpansLaws.{found-starts}
 
 -- a check by two formats that passes: not cut; and what is asked of the one format, or of the other
@@ -58,14 +58,14 @@ glyphs-sound t good n e h = rw e (sound t 2 0 (natAt 2 t 2) (one-good t _ good h
 
 -- ---- a glyph's index, by what the search found among n spans: k
 module _ (t : List ℕ) (g n k : ℕ) (count : n ≡ natAt 2 t 2) where
-  pub glyph-found : natAt 2 t 0 ≡ 1 → k ≡ firstHolding (glyphSpans t n) g → k < n → At k ≡ coverageIndex t g
+  pub glyph-found : natAt 2 t 0 ≡ 1 → k ≡ firstHolding (glyphSpans t n) g → k < n → Index k ≡ coverageIndex t g
   glyph-found one e h = rw (← count, ← e) (simp (eq-eqb (natAt 2 t 0) 1 one, lt-ltb k n h))
 
   pub glyph-not : natAt 2 t 0 ≡ 1 → k ≡ firstHolding (glyphSpans t n) g → n ≤ k → Not ≡ coverageIndex t g
   glyph-not one e h = rw (← count, ← e) (simp (eq-eqb (natAt 2 t 0) 1 one, le-ltb k n h))
 
   pub range-found : (natAt 2 t 0 ≡ 1 → ⊥) → k ≡ firstHolding (rangeSpans t n) g → k < n
-      → (start index : ℕ) → start ≡ natAt 2 t (4 + 6 * k) → index ≡ natAt 2 t (4 + 6 * k + 4) → At (index + g - start) ≡ coverageIndex t g
+      → (start index : ℕ) → start ≡ natAt 2 t (4 + 6 * k) → index ≡ natAt 2 t (4 + 6 * k + 4) → Index (index + g - start) ≡ coverageIndex t g
   range-found two e h start index es ei = rw (← count, ← e) (simp (ne-eqb (natAt 2 t 0) 1 two, lt-ltb k n h, ← es, ← ei))
 
   pub range-not : (natAt 2 t 0 ≡ 1 → ⊥) → k ≡ firstHolding (rangeSpans t n) g → n ≤ k → Not ≡ coverageIndex t g

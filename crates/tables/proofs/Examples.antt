@@ -14,16 +14,16 @@ use Rattle.tables.specs.Part.{childOf}
 use Rattle.tables.specs.Spans.{ascends, firstHolding, spanAt, spansFrom}
 use Rattle.tables.specs.Coverage.{coverageAt, coverageGood, coverageGoodAt, coverageIndex}
 use Rattle.tables.specs.ClassDef.{classAt, classGood, classGoodAt, classOf}
-use Rattle.tables.specs.Anchor.{Spot, anchorOf}
-use Rattle.tables.specs.MarkArray.{MarkSpot, markOf}
+use Rattle.tables.specs.Anchor.{Point, anchorOf}
+use Rattle.tables.specs.MarkArray.{MarkAnchor, markOf}
 use Rattle.tables.specs.AnchorRows.{anchorIn, rowsOf}
-use Rattle.tables.specs.declared.coverage.Covered.the-variants.{At, Not}
+use Rattle.tables.specs.declared.coverage.Covered.the-variants.{Index, Not}
 use Rattle.tables.specs.declared.anchor_rows.Rows.the-variants.{Of, Absent}
 
-abbrev spot : ℤ → ℤ → Spot
+abbrev spot : ℤ → ℤ → Point
 spot x y = record { x = x; y = y }
 
-abbrev mark : ℕ → Spot → MarkSpot
+abbrev mark : ℕ → Point → MarkAnchor
 mark c a = record { class = c; anchor = a }
 
 -- coverage: the glyphs 56, 59, 65, 66, 74; the ranges 78 to 87 from index 0 on and 100 to 102 from index 10 on
@@ -57,11 +57,11 @@ rows = words (1 ∷ 6 ∷ 0 ∷ 1 ∷ 7 ∷ 8 ∷ [])
 
 pub record Worked : Type 0 where
   -- coverage 1: the first glyph, one in between, the last, and one that isn't there
-  pub coverage-1 : map (coverageIndex glyphs) (56 ∷ 66 ∷ 74 ∷ 57 ∷ []) ≡ (At 0 ∷ At 3 ∷ At 4 ∷ Not ∷ [])
+  pub coverage-1 : map (coverageIndex glyphs) (56 ∷ 66 ∷ 74 ∷ 57 ∷ []) ≡ (Index 0 ∷ Index 3 ∷ Index 4 ∷ Not ∷ [])
   -- coverage 2: both ends of a range, a glyph past it, and the index of the second range
-  pub coverage-2 : map (coverageIndex ranges) (78 ∷ 87 ∷ 88 ∷ 101 ∷ []) ≡ (At 0 ∷ At 9 ∷ Not ∷ At 11 ∷ [])
+  pub coverage-2 : map (coverageIndex ranges) (78 ∷ 87 ∷ 88 ∷ 101 ∷ []) ≡ (Index 0 ∷ Index 9 ∷ Not ∷ Index 11 ∷ [])
   -- its index is a plain sum, not cut at 16 bits
-  pub coverage-sum : coverageIndex (words (2 ∷ 1 ∷ 10 ∷ 20 ∷ 65535 ∷ [])) 20 ≡ At 65545
+  pub coverage-sum : coverageIndex (words (2 ∷ 1 ∷ 10 ∷ 20 ∷ 65535 ∷ [])) 20 ≡ Index 65545
   -- the check: both are good; two equal glyphs, a range that starts in the one before, one that ends before it starts, a cut list and an unknown format are not
   pub coverage-check : map coverageGood (glyphs ∷ ranges ∷ words (1 ∷ 2 ∷ 9 ∷ 9 ∷ []) ∷ words (2 ∷ 2 ∷ 5 ∷ 9 ∷ 0 ∷ 9 ∷ 12 ∷ 5 ∷ [])
       ∷ words (2 ∷ 1 ∷ 9 ∷ 5 ∷ 0 ∷ []) ∷ take 13 glyphs ∷ words (3 ∷ 0 ∷ []) ∷ [])
@@ -75,7 +75,7 @@ pub record Worked : Type 0 where
   -- offset 0 is good, covers nothing and gives class 0
   pub offset-0 : (coverageGoodAt [] 0 ≡ true) × (coverageAt glyphs 0 56 ≡ Not) × (classGoodAt [] 0 ≡ true) × (classAt classes 0 48 ≡ 0)
   -- another offset leads into the table; past the end it is cut
-  pub offset : (coverageAt (7 ∷ 7 ∷ glyphs) 2 59 ≡ At 1) × (coverageGoodAt glyphs 15 ≡ false)
+  pub offset : (coverageAt (7 ∷ 7 ∷ glyphs) 2 59 ≡ Index 1) × (coverageGoodAt glyphs 15 ≡ false)
   -- anchors of each format, and the same with the last byte cut off
   pub anchor : map anchorOf anchors ≡ (some (spot (pos 189) (negsuc 102)) ∷ some (spot (pos 322) (pos 900)) ∷ some (spot (pos 279) (pos 1301)) ∷ [])
   pub anchor-cut : map anchorOf (take 5 (words (1 ∷ 189 ∷ 65433 ∷ [])) ∷ words (3 ∷ 279 ∷ 1301 ∷ 10 ∷ []) ∷ []) ≡ (none ∷ none ∷ [])
@@ -119,7 +119,7 @@ pub record Ends : Type 0 where
   -- coverage: an empty list is good and covers nothing; a header of 3 bytes is cut
   pub coverage-empty : (coverageGood (words (1 ∷ 0 ∷ [])) ≡ true) × (coverageIndex (words (1 ∷ 0 ∷ [])) 0 ≡ Not) × (coverageGood (0 ∷ 1 ∷ 0 ∷ []) ≡ false)
   -- one range of all glyphs; a range may start right after the one before; after glyph 65,535 none can follow
-  pub coverage-all : (coverageGood (words (2 ∷ 1 ∷ 0 ∷ 65535 ∷ 0 ∷ [])) ≡ true) × (coverageIndex (words (2 ∷ 1 ∷ 0 ∷ 65535 ∷ 0 ∷ [])) 65535 ≡ At 65535)
+  pub coverage-all : (coverageGood (words (2 ∷ 1 ∷ 0 ∷ 65535 ∷ 0 ∷ [])) ≡ true) × (coverageIndex (words (2 ∷ 1 ∷ 0 ∷ 65535 ∷ 0 ∷ [])) 65535 ≡ Index 65535)
   pub coverage-next : map coverageGood (words (2 ∷ 2 ∷ 5 ∷ 9 ∷ 0 ∷ 10 ∷ 10 ∷ 5 ∷ []) ∷ words (2 ∷ 2 ∷ 65535 ∷ 65535 ∷ 0 ∷ 0 ∷ 0 ∷ 1 ∷ []) ∷ []) ≡ (true ∷ false ∷ [])
   -- class lists: no classes in 6 bytes are good, 5 bytes are cut; formats 0 and 3 are unknown; ranges that share a glyph are not ascending
   pub class-ends : map classGood (words (1 ∷ 7 ∷ 0 ∷ []) ∷ take 5 (words (1 ∷ 7 ∷ 0 ∷ [])) ∷ words (0 ∷ 0 ∷ 0 ∷ []) ∷ words (3 ∷ 0 ∷ 0 ∷ [])

@@ -6,3 +6,4 @@ pub mod ClassDef  -- the ClassDef table
 pub mod Anchor  -- the Anchor table
 pub mod MarkArray  -- the MarkArray table
 pub mod AnchorRows  -- rows of anchors, one for each mark class
+pub mod code  -- of code: what its values stand for

@@ -1,28 +1,37 @@
 // Rows of anchors by mark class (`AnchorRows`): base arrays and ligature components.
 use crate::anchor::Anchor;
 use crate::anchor::anchor_of;
+use crate::part::OFFSET_SIZE;
 use crate::part::child_of;
 use ints::big_endian::read_u16;
 ghost use mathlib.Core.Path.{_≡_};
 ghost use Prim.Native.Nat.{_<_};
-ghost use Rattle.tables.specs.Anchor.{AnchorNear, spot};
 ghost use Rattle.tables.specs.AnchorRows.{anchorIn, rowsOf};
+ghost use Rattle.tables.specs.code.Meant.{AnchorNear, anchorPoint};
 
-// How many rows there are, in a table that is whole.
+// The count of rows, and where the offsets start that follow it.
+const ROW_COUNT: usize = 0;
+
+const ANCHOR_OFFSETS: usize = 2;
+
+// How many rows there are.
 pub enum Rows {
+    // The table is whole.
     Of(usize),
+    // It is cut: there is none.
     Absent,
 }
 
+// The rows of a table with so many columns.
 pub fn rows_of(t: &[u8], columns: usize) -> Rows
     requires { ⌜ columns < 65536 ⌝ }
     ensures { λ r. ⌜ r ≡ rowsOf (now (t .entry)) columns ⌝ }
 {
-    if t.len() < 2 {
+    if t.len() < ANCHOR_OFFSETS {
         return Rows::Absent;
     }
-    let rows = read_u16(t, 0) as usize;
-    if t.len() < 2 + 2 * (rows * columns) {
+    let rows = read_u16(t, ROW_COUNT) as usize;
+    if t.len() < ANCHOR_OFFSETS + OFFSET_SIZE * (rows * columns) {
         return Rows::Absent;
     }
     Rows::Of(rows)
@@ -31,7 +40,7 @@ pub fn rows_of(t: &[u8], columns: usize) -> Rows
 // The anchor in a row for a mark class.
 pub fn anchor_in(t: &[u8], rows: usize, columns: usize, row: usize, class: usize) -> Anchor
     requires { ⌜ (rows < 65536) × (columns < 65536) ⌝ }
-    ensures { λ r. ⌜ (spot r ≡ anchorIn (now (t .entry)) rows columns row class) × AnchorNear r ⌝ }
+    ensures { λ r. ⌜ (anchorPoint r ≡ anchorIn (now (t .entry)) rows columns row class) × AnchorNear r ⌝ }
 {
     if rows <= row {
         return Anchor::Absent;
@@ -39,5 +48,5 @@ pub fn anchor_in(t: &[u8], rows: usize, columns: usize, row: usize, class: usize
     if columns <= class {
         return Anchor::Absent;
     }
-    anchor_of(child_of(t, 2, rows * columns, row * columns + class))
+    anchor_of(child_of(t, ANCHOR_OFFSETS, rows * columns, row * columns + class))
 }

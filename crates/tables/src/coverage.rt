@@ -1,4 +1,8 @@
-// The Coverage table.
+// The Coverage table: which glyphs are covered, and the index of each.
+use crate::spans::END_GLYPH_ID;
+use crate::spans::GLYPH_SIZE;
+use crate::spans::LIST_HEADER_SIZE;
+use crate::spans::RANGE_RECORD_SIZE;
 use crate::spans::ascending;
 use crate::spans::seek;
 use ints::big_endian::read_u16;
@@ -7,37 +11,23 @@ ghost use mathlib.Core.Path.{_≡_};
 ghost use Prim.Native.Nat.{_<_};
 ghost use Rattle.tables.specs.Coverage.{coverageAt, coverageGood, coverageGoodAt, coverageIndex};
 
-// A glyph's coverage index, if it is covered.
+// The fields of the header. The count is glyphCount in format 1 and rangeCount in format 2.
+const COVERAGE_FORMAT: usize = 0;
+
+const COUNT: usize = 2;
+
+// Format 2: where in a range record its first glyph's index is.
+const START_COVERAGE_INDEX: usize = 4;
+
+// A glyph's coverage index.
 pub enum Covered {
-    At(usize),
+    // It is covered, with this index.
+    Index(usize),
+    // It isn't.
     Not,
 }
 
-// The check of a table: whole, of a known format, strictly ascending.
-fn good(t: &[u8]) -> bool
-    ensures { λ r. ⌜ r ≡ coverageGood (now (t .entry)) ⌝ }
-{
-    if t.len() < 4 {
-        return false;
-    }
-    let format = read_u16(t, 0);
-    let count = read_u16(t, 2) as usize;
-    if format == 1 {
-        if t.len() < 4 + 2 * count {
-            return false;
-        }
-        return ascending(t, 2, 0, count);
-    }
-    if format == 2 {
-        if t.len() < 4 + 6 * count {
-            return false;
-        }
-        return ascending(t, 6, 2, count);
-    }
-    false
-}
-
-// The same of the table at an offset: offset 0 is good and covers nothing.
+// The check of the table at an offset: offset 0 is good and covers nothing.
 pub fn good_at(s: &[u8], off: usize) -> bool
     ensures { λ r. ⌜ r ≡ coverageGoodAt (now (s .entry)) off ⌝ }
 {
@@ -50,30 +40,7 @@ pub fn good_at(s: &[u8], off: usize) -> bool
     good(&s[off..])
 }
 
-// A glyph's index in a table that is good.
-fn index_of(t: &[u8], glyph: u32) -> Covered
-    requires { ⌜ (glyph < 65536) × (coverageGood (now t) ≡ true) ⌝ }
-    ensures { λ r. ⌜ r ≡ coverageIndex (now (t .entry)) glyph ⌝ }
-{
-    let count = read_u16(t, 2) as usize;
-    if read_u16(t, 0) == 1 {
-        let k = seek(t, 2, 0, count, glyph);
-        if k < count {
-            return Covered::At(k);
-        }
-        return Covered::Not;
-    }
-    let k = seek(t, 6, 2, count, glyph);
-    if k < count {
-        let at = 4 + 6 * k;
-        let start = read_u16(t, at);
-        let index = read_u16(t, at + 4);
-        return Covered::At((index + glyph - start) as usize);
-    }
-    Covered::Not
-}
-
-// The same in the table at an offset that is good.
+// A glyph's index in the table at an offset that is good.
 pub fn index_at(s: &[u8], off: usize, glyph: u32) -> Covered
     requires { ⌜ (glyph < 65536) × (coverageGoodAt (now s) off ≡ true) ⌝ }
     ensures { λ r. ⌜ r ≡ coverageAt (now (s .entry)) off glyph ⌝ }
@@ -82,4 +49,51 @@ pub fn index_at(s: &[u8], off: usize, glyph: u32) -> Covered
         return Covered::Not;
     }
     index_of(&s[off..], glyph)
+}
+
+// The check of a table: whole, of a known format, strictly ascending.
+fn good(t: &[u8]) -> bool
+    ensures { λ r. ⌜ r ≡ coverageGood (now (t .entry)) ⌝ }
+{
+    if t.len() < LIST_HEADER_SIZE {
+        return false;
+    }
+    let format = read_u16(t, COVERAGE_FORMAT);
+    let count = read_u16(t, COUNT) as usize;
+    if format == 1 {
+        if t.len() < LIST_HEADER_SIZE + GLYPH_SIZE * count {
+            return false;
+        }
+        return ascending(t, GLYPH_SIZE, 0, count);
+    }
+    if format == 2 {
+        if t.len() < LIST_HEADER_SIZE + RANGE_RECORD_SIZE * count {
+            return false;
+        }
+        return ascending(t, RANGE_RECORD_SIZE, END_GLYPH_ID, count);
+    }
+    false
+}
+
+// A glyph's index in a table that is good.
+fn index_of(t: &[u8], glyph: u32) -> Covered
+    requires { ⌜ (glyph < 65536) × (coverageGood (now t) ≡ true) ⌝ }
+    ensures { λ r. ⌜ r ≡ coverageIndex (now (t .entry)) glyph ⌝ }
+{
+    let count = read_u16(t, COUNT) as usize;
+    if read_u16(t, COVERAGE_FORMAT) == 1 {
+        let k = seek(t, GLYPH_SIZE, 0, count, glyph);
+        if k < count {
+            return Covered::Index(k);
+        }
+        return Covered::Not;
+    }
+    let k = seek(t, RANGE_RECORD_SIZE, END_GLYPH_ID, count, glyph);
+    if k < count {
+        let at = LIST_HEADER_SIZE + RANGE_RECORD_SIZE * k;
+        let start = read_u16(t, at);
+        let index = read_u16(t, at + START_COVERAGE_INDEX);
+        return Covered::Index((index + glyph - start) as usize);
+    }
+    Covered::Not
 }

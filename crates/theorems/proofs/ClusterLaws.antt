@@ -12,16 +12,17 @@ use Rattle.ints.specs.Choice.{if_then_else_}
 use Rattle.slots.specs.Slot.{Slot}
 use Rattle.slots.specs.Line.{slot, update}
 use Rattle.slots.specs.Fields.{advance, measure, withChain, withCluster, withMeasure}
-use Rattle.slots.specs.Clusters.{Blind, clusters, KeepsClusters, numberedFrom, withClusters}
+use Rattle.slots.specs.theorems.Clusters.{Blind, clusters, KeepsClusters, withClusters}
+use Rattle.slots.specs.Numbered.{numberedFrom}
 use Rattle.slots.specs.Parent.{byParent, cleared, isAttached, parent, parentBy}
-use Rattle.slots.specs.Checks.{outOfRange, some}
+use Rattle.slots.specs.Checks.{badSlot, some}
 use Rattle.slots.specs.Start.{started, unattached}
 use Rattle.slots.specs.declared.axis.Axis.{Axis}
 use Rattle.slots.specs.declared.axis.Axis.the-variants.{X, Y}
 use Rattle.slots.specs.declared.fields.Measure.{Measure}
 use Rattle.slots.specs.declared.fields.Measure.the-variants.{Advance, Offset}
 use Rattle.slots.specs.declared.parent.Parent.{Parent}
-use Rattle.slots.specs.declared.parent.Parent.the-variants.{None, Outside, At}
+use Rattle.slots.specs.declared.parent.Parent.the-variants.{None, Outside, InLine}
 
 -- ---- the slots with other clusters
 -- no clusters leave the slots
@@ -106,7 +107,7 @@ module _ (f g : List Slot → List Slot) (h : KeepsClusters f) (k : KeepsCluster
       → (p : Parent) → KeepsClusters (λ ss. byParent p (f ss) (g ss) (λ j. at j ss))
   by-parent-keeps at m None = h
   by-parent-keeps at m Outside = k
-  by-parent-keeps at m (At j) = m j
+  by-parent-keeps at m (InLine j) = m j
 
 -- ---- one slot with another cluster
 -- a read of a slot doesn't see its cluster
@@ -160,8 +161,8 @@ some-blind p h [] (s ∷ ss) = refl
 some-blind p h (c ∷ cs) (s ∷ ss) = ap₂ _||_ (h c s) (some-blind p h cs ss)
 
 -- whether some slot is out of range
-pub range-blind : Blind (some outOfRange)
-range-blind = some-blind outOfRange (λ c s. refl)
+pub range-blind : Blind (some badSlot)
+range-blind = some-blind badSlot (λ c s. refl)
 
 -- an advance or an offset of slot i
 pub measure-blind : (m : Measure) (a : Axis) (i : ℕ) → Blind (λ ss. measure m a (slot ss i))

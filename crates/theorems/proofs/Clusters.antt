@@ -5,10 +5,10 @@ use mathlib.Core.List.{List, [], _∷_}
 use Prim.Native.Nat.{ℕ}
 use lib.Dec.{leb, ltb}
 use lib.ListN.{length, length-map}
-use Rattle.ints.specs.BigEndian.{Bytes}
+use Rattle.ints.specs.BigEndian.{AllBytes}
 use Rattle.slots.specs.Axis.{cross, directionOf}
-use Rattle.slots.specs.Checks.{misshapen}
-use Rattle.slots.specs.Clusters.{Blind, clusters, plainLine, plainN}
+use Rattle.slots.specs.Checks.{badLine}
+use Rattle.slots.specs.theorems.Clusters.{Blind, clusters, plainLine, plainN}
 use Rattle.slots.specs.Line.{bytes, count, lineSlots, slots, slotsN}
 use Rattle.slots.specs.Slot.{clusteredSize, known, Slot, slotSize}
 use Rattle.slots.specs.Start.{unattached}
@@ -26,7 +26,7 @@ use Rattle.cursive.specs.CursivePos.{cursiveGood, planOf as cursivePlan, planSa
 use Rattle.theorems.proofs.CursiveClusters as cursive
 use Rattle.marks.specs.MarkPos.{marksGood}
 use Rattle.marks.specs.Plan.{planOf as markPlan, planSaid as markSaid}
-use Rattle.marks.specs.declared.subtable.Kind.{Kind}
+use Rattle.marks.specs.declared.mark_pos.Target.{Target}
 use Rattle.theorems.proofs.MarkClusters as marks
 use Rattle.theorems.proofs.FinishClusters as finish
 use Rattle.finish.proofs.SettledLaws.{finished-count}
@@ -35,13 +35,13 @@ use Rattle.answers.specs.Said.{Said, applied, declined, done, refused, unless}
 use Rattle.answers.specs.declared.Neighbour.{Neighbour}
 use Rattle.theorems.specs.Clusters.{Apart, Same}
 use Rattle.gpos.specs.Neighbours.{badPrevious, badSecond}
-use Rattle.gpos.specs.Tests.{applyingTests}
-use Rattle.gpos.specs.Start.{start}
-use Rattle.gpos.specs.Finish.{finish as finishCall}
-use Rattle.gpos.specs.Single.{single as singleCall}
-use Rattle.gpos.specs.Pair.{pair as pairCall}
-use Rattle.gpos.specs.Cursive.{cursive as cursiveCall}
-use Rattle.gpos.specs.Marks.{mark as markCall}
+use Rattle.gpos.specs.Checks.{applyingTests}
+use Rattle.gpos.specs.Starting.{start}
+use Rattle.gpos.specs.Finishing.{finish as finishCall}
+use Rattle.gpos.specs.SinglePos.{single as singleCall}
+use Rattle.gpos.specs.PairPos.{pair as pairCall}
+use Rattle.gpos.specs.CursivePos.{cursive as cursiveCall}
+use Rattle.gpos.specs.MarkPos.{mark as markCall}
 
 -- ---- each call
 pub start-apart : Apart start
@@ -92,20 +92,20 @@ module _ (t : List ℕ) (direction s u i : ℕ) where
         as-many = cursive.leaves-length s u d flag i t previous;
       }
 
-  pub mark-apart : (kind : Kind) → Apart (markCall kind t direction s u i)
-  mark-apart kind =
+  pub mark-apart : (target : Target) → Apart (markCall target t direction s u i)
+  mark-apart target =
       record {
         blind =
-            tests-blind direction s u (λ n. leb n i) (not (marksGood t)) (λ ss. markSaid i (markPlan kind (cross d) t ss i))
-            (λ cs ss. ap (markSaid i) (marks.plan-blind kind (cross d) t i cs ss));
-        keeps = marks.leaves-keeps s u d i kind t;
-        as-many = marks.leaves-length s u d i kind t;
+            tests-blind direction s u (λ n. leb n i) (not (marksGood t)) (λ ss. markSaid i (markPlan target (cross d) t ss i))
+            (λ cs ss. ap (markSaid i) (marks.plan-blind target (cross d) t i cs ss));
+        keeps = marks.leaves-keeps s u d i target t;
+        as-many = marks.leaves-length s u d i target t;
       }
 
 -- ---- what follows, for any of them
 module _ (c : Call) (apart : Apart c) where
   -- the clusters of the slots that it leaves, read from their bytes
-  read-back : (z : ℕ) → known z ≡ true → (l : List ℕ) → Bytes l → clusters (lineSlots z (bytes z (c .leaves (lineSlots z l)))) ≡ clusters (lineSlots z l)
+  read-back : (z : ℕ) → known z ≡ true → (l : List ℕ) → AllBytes l → clusters (lineSlots z (bytes z (c .leaves (lineSlots z l)))) ≡ clusters (lineSlots z l)
   unfolding slots
   read-back z k l b =
       let ss = lineSlots z l in
@@ -114,8 +114,8 @@ module _ (c : Call) (apart : Apart c) where
       ap (λ (n : ℕ). clusters (slotsN z n (bytes z new))) (count-bytes z k new) ∙ clusters-read z k new ss (slots-storable z k l b) same ∙ same
 
   -- no call writes a cluster, in lines of slots of either size, whatever it says
-  pub clusters-stay : (z : ℕ) (l : List ℕ) (r : Said) (l′ : List ℕ) → Bytes l → Made c z l r l′ → clusters (lineSlots z l′) ≡ clusters (lineSlots z l)
-  clusters-stay z l r l′ b o = ap (λ (m : List ℕ). clusters (lineSlots z m)) (o .line) ∙ go (misshapen z l) refl
+  pub clusters-stay : (z : ℕ) (l : List ℕ) (r : Said) (l′ : List ℕ) → AllBytes l → Made c z l r l′ → clusters (lineSlots z l′) ≡ clusters (lineSlots z l)
+  clusters-stay z l r l′ b o = ap (λ (m : List ℕ). clusters (lineSlots z m)) (o .line) ∙ go (badLine z l) refl
     where
       new : List Slot
       new = c .leaves (lineSlots z l)
@@ -126,12 +126,12 @@ module _ (c : Call) (apart : Apart c) where
       by-said k (declined hs) = refl
       by-said k (refused n) = refl
 
-      go : (bad : Bool) → misshapen z l ≡ bad → clusters (lineSlots z (lineAfter z (answerTo c z l) l new)) ≡ clusters (lineSlots z l)
+      go : (bad : Bool) → badLine z l ≡ bad → clusters (lineSlots z (lineAfter z (answerTo c z l) l new)) ≡ clusters (lineSlots z l)
       go true e = rw e
       go false e = rw e (by-said (known-size z l e) (c .says (lineSlots z l)))
 
   -- on a line that isn't refused with 1, whatever its clusters, it does what it does on the line of the old 24 bytes, and keeps every cluster
-  pub same-without : (l : List ℕ) (r : Said) (l′ : List ℕ) (q : Said) (m′ : List ℕ) → Bytes l → misshapen clusteredSize l ≡ false
+  pub same-without : (l : List ℕ) (r : Said) (l′ : List ℕ) (q : Said) (m′ : List ℕ) → AllBytes l → badLine clusteredSize l ≡ false
       → Made c clusteredSize l r l′ → Made c slotSize (plainLine l) q m′ → Same l r l′ q m′
   same-without l r l′ q m′ b good o p =
       record {

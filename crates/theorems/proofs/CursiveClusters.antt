@@ -8,12 +8,12 @@ use lib.Dec.{eqb}
 use lib.IntN.{ℤ, pos, negℤ}
 use lib.ListN.{length}
 use Rattle.ints.specs.Choice.{if_then_else_}
-use Rattle.ints.specs.Saturating.{less, negated, plus}
+use Rattle.ints.specs.Saturating.{satSub, satNeg, satAdd}
 use Rattle.slots.specs.Axis.{cross, main}
 use Rattle.slots.specs.Slot.{Slot}
 use Rattle.slots.specs.Line.{slot, update}
 use Rattle.slots.specs.Fields.{advance, attached, cursiveBit, offset, withChain, withCluster, withMeasure}
-use Rattle.slots.specs.Clusters.{Blind, KeepsClusters, withClusters}
+use Rattle.slots.specs.theorems.Clusters.{Blind, KeepsClusters, withClusters}
 use Rattle.slots.specs.Parent.{byParent, cleared, isAttached, parent}
 use Rattle.slots.specs.declared.axis.Axis.{Axis}
 use Rattle.slots.specs.declared.axis.Axis.the-variants.{X, Y}
@@ -22,40 +22,40 @@ use Rattle.slots.specs.declared.axis.Direction.the-variants.{LeftToRight, Right
 use Rattle.slots.specs.declared.fields.Measure.the-variants.{Advance, Offset}
 use Rattle.theorems.proofs.ClusterLaws.{attached-blind, blind-as, blind-by, by-parent-keeps, chain-blind, cleared-keeps, glyph-blind, if-keeps, keeps-after, keeps-by, length-blind, measure-blind, measure-keeps, measure-sees, parent-blind, same-keeps, slot-after, slot-blind, slot-by, SlotKeeps, update-keeps}
 use Rattle.slots.proofs.LineLaws.{length-update}
-use Rattle.tables.specs.Anchor.{Spot}
+use Rattle.tables.specs.Anchor.{Point}
 use Rattle.tables.specs.declared.coverage.Covered.{Covered}
-use Rattle.tables.specs.declared.coverage.Covered.the-variants.{At, Not}
+use Rattle.tables.specs.declared.coverage.Covered.the-variants.{Index, Not}
 use Rattle.answers.specs.declared.Neighbour.{Neighbour}
-use Rattle.answers.specs.declared.Neighbour.the-variants.{At as Named, Missing}
-use Rattle.counts.specs.Tally.{tally}
-use Rattle.counts.proofs.TallyLaws.{tally-same}
+use Rattle.answers.specs.declared.Neighbour.the-variants.{Named, Missing}
+use Rattle.ints.specs.Tally.{tally}
+use Rattle.ints.proofs.TallyLaws.{tally-same}
 use Rattle.cursive.specs.Chains.{attachedCount, chainTo, reach}
-use Rattle.cursive.specs.CursivePos.{Plan, stop, join, entryOf, fromCovered, fromEntry, fromNeighbour, fromPrevious, indexOf, planOf}
+use Rattle.cursive.specs.CursivePos.{Plan, stop, join, entryOf, afterCovered, afterEntry, afterNeighbour, afterPrevious, indexOf, planOf}
 use Rattle.cursive.specs.Reversal.{reversed, reversedIn, turned}
-use Rattle.cursive.specs.Attachment.{crossed, ended, hung, joinedAt, planned, previousJoined, pulled, rightToLeft, sameAs, scaledAt, separated, separatedBy, thisJoined, tied}
+use Rattle.cursive.specs.Attachment.{crossed, ended, childAttached, joinedAt, planned, previousJoined, pulled, rightToLeft, sameAs, scaledAt, separatedBy, thisJoined, tied}
 use Rattle.cursive.proofs.ReversalLaws.{length-reversed}
 
 -- ---- the plan
 module _ (t : List ℕ) (i : ℕ) where
   -- by the previous slot
-  neighbour-blind : (n : Neighbour) (entry : Spot) → Blind (λ ss. fromNeighbour t ss i n entry)
-  neighbour-blind (Named j) entry = blind-as (glyph-blind j) (λ g. fromPrevious t i j entry (indexOf t g))
+  neighbour-blind : (n : Neighbour) (entry : Point) → Blind (λ ss. afterNeighbour t ss i n entry)
+  neighbour-blind (Named j) entry = blind-as (glyph-blind j) (λ g. afterPrevious t i j entry (indexOf t g))
   neighbour-blind (Missing f) entry = λ cs ss. refl
 
   -- by the entry anchor
-  entry-blind : (n : Neighbour) (e : Option Spot) → Blind (λ ss. fromEntry t ss i n e)
+  entry-blind : (n : Neighbour) (e : Option Point) → Blind (λ ss. afterEntry t ss i n e)
   entry-blind n (some entry) = neighbour-blind n entry
   entry-blind n none = λ cs ss. refl
 
   -- by the coverage
-  covered-blind : (n : Neighbour) (c : Covered) → Blind (λ ss. fromCovered t ss i n c)
-  covered-blind n (At k) = entry-blind n (entryOf t k)
+  covered-blind : (n : Neighbour) (c : Covered) → Blind (λ ss. afterCovered t ss i n c)
+  covered-blind n (Index k) = entry-blind n (entryOf t k)
   covered-blind n Not = λ cs ss. refl
 
   -- the whole
   pub plan-blind : (previous : Neighbour) → Blind (λ ss. planOf t ss i previous)
   unfolding planOf
-  plan-blind previous = blind-by (blind-as (glyph-blind i) (indexOf t)) (λ c ss. fromCovered t ss i previous c) (covered-blind previous)
+  plan-blind previous = blind-by (blind-as (glyph-blind i) (indexOf t)) (λ c ss. afterCovered t ss i previous c) (covered-blind previous)
 
 -- ---- reversal
 -- how many slots are attached
@@ -73,8 +73,8 @@ attached-keeps a kind c z n s = ap (attached kind c) (measure-keeps Offset a z n
 turned-keeps : (a : Axis) (was : Slot) (i j : ℕ) → KeepsClusters (λ ss. turned a was ss i j)
 unfolding turned
 turned-keeps a was i j = keeps-by (measure-blind Offset a i)
-    (λ z. update j (λ s. attached (was .attachType) (reach (negℤ (was .chain))) (withMeasure Offset a (negated z) s)))
-    (λ z. update-keeps _ (attached-keeps a (was .attachType) (reach (negℤ (was .chain))) (negated z)) j)
+    (λ z. update j (λ s. attached (was .attachType) (reach (negℤ (was .chain))) (withMeasure Offset a (satNeg z) s)))
+    (λ z. update-keeps _ (attached-keeps a (was .attachType) (reach (negℤ (was .chain))) (satNeg z)) j)
 
 module _ (a : Axis) (p : ℕ) where
   -- one call, by slot i as it was but for its cluster, where the parent's own chain is reversed without clusters
@@ -112,15 +112,15 @@ module _ (a : Axis) (p : ℕ) where
 module _ (a : Axis) (z : ℤ) where
   -- a glyph that ends at its anchor
   ended-keeps : SlotKeeps (ended a z)
-  ended-keeps = slot-by (offset a) (λ o. withMeasure Advance a (plus z o)) (measure-sees Offset a) (λ o. measure-keeps Advance a (plus z o))
+  ended-keeps = slot-by (offset a) (λ o. withMeasure Advance a (satAdd z o)) (measure-sees Offset a) (λ o. measure-keeps Advance a (satAdd z o))
 
   -- a glyph pulled back to its anchor
   pulled-keeps : SlotKeeps (pulled a z)
   pulled-keeps = slot-by (offset a) (λ o s. put o (advance a s) s) (measure-sees Offset a) (λ o. slot-by (advance a) (put o) (measure-sees Advance a)
-      (λ v. slot-after (withMeasure Advance a _) (withMeasure Offset a _) (measure-keeps Advance a (less v (plus z o))) (measure-keeps Offset a (less o (plus z o)))))
+      (λ v. slot-after (withMeasure Advance a _) (withMeasure Offset a _) (measure-keeps Advance a (satSub v (satAdd z o))) (measure-keeps Offset a (satSub o (satAdd z o)))))
     where
       put : ℤ → ℤ → Slot → Slot
-      put o v s = withMeasure Offset a (less o (plus z o)) (withMeasure Advance a (less v (plus z o)) s)
+      put o v s = withMeasure Offset a (satSub o (satAdd z o)) (withMeasure Advance a (satSub v (satAdd z o)) s)
 
 -- the previous glyph
 previous-keeps : (d : Direction) (z : ℤ) → SlotKeeps (previousJoined d z)
@@ -138,27 +138,28 @@ this-keeps BottomToTop z = measure-keeps Advance Y z
 
 -- ---- across the line
 -- a child hung on a parent
-hung-keeps : (a : Axis) (child parent : ℕ) (z : ℤ) → KeepsClusters (hung a child parent z)
+hung-keeps : (a : Axis) (child parent : ℕ) (z : ℤ) → KeepsClusters (childAttached a child parent z)
 hung-keeps a child parent z = keeps-after (λ ss. reversed a ss child parent) (update child (λ s. attached 2 (chainTo child parent) (withMeasure Offset a z s)))
     (reversed-keeps a parent child) (update-keeps _ (attached-keeps a 2 (chainTo child parent) z) child)
 
 -- the parent separated
-separated-keeps : (a : Axis) (child parent : ℕ) → KeepsClusters (separated a child parent)
+separated-keeps : (a : Axis) (c : ℤ) (parent : ℕ) → KeepsClusters (separatedBy a c parent)
 unfolding separatedBy
-separated-keeps a child parent = keeps-by (chain-blind child) (λ c ss. separatedBy a c parent ss)
-    (λ c. keeps-by (blind-as (chain-blind parent) (λ z. sameAs z (negℤ c)))
+separated-keeps a c parent = keeps-by (blind-as (chain-blind parent) (λ z. sameAs z (negℤ c)))
     (λ t ss. if t then update parent (λ s. withChain (pos 0) (withMeasure Offset a (pos 0) s)) ss else ss)
-    (if-keeps _ _ (update-keeps _ (λ n s. ap (withChain (pos 0)) (measure-keeps Offset a (pos 0) n s)) parent) same-keeps))
+    (if-keeps _ _ (update-keeps _ (λ n s. ap (withChain (pos 0)) (measure-keeps Offset a (pos 0) n s)) parent) same-keeps)
 
 -- a child hung and the parent separated
 tied-keeps : (a : Axis) (child parent : ℕ) (z : ℤ) → KeepsClusters (tied a child parent z)
 unfolding tied
-tied-keeps a child parent z = keeps-after (hung a child parent z) (separated a child parent) (hung-keeps a child parent z) (separated-keeps a child parent)
+tied-keeps a child parent z =
+    keeps-after (childAttached a child parent z) (separatedBy a (chainTo child parent) parent) (hung-keeps a child parent z)
+    (separated-keeps a (chainTo child parent) parent)
 
 -- by the flag
 crossed-keeps : (a : Axis) (later : Bool) (i idx : ℕ) (exit entry : ℤ) → KeepsClusters (crossed a later i idx exit entry)
-crossed-keeps a true i idx exit entry = tied-keeps a i idx (less entry exit)
-crossed-keeps a false i idx exit entry = tied-keeps a idx i (negated (less entry exit))
+crossed-keeps a true i idx exit entry = tied-keeps a i idx (satSub entry exit)
+crossed-keeps a false i idx exit entry = tied-keeps a idx i (satNeg (satSub entry exit))
 
 -- as many slots as before, the parent separated
 separated-length : (a : Axis) (c : ℤ) (parent : ℕ) (ss : List Slot) → length (separatedBy a c parent ss) ≡ length ss
@@ -173,18 +174,18 @@ separated-length a c parent ss = go (sameAs (slot ss parent .chain) (negℤ c))
 tied-length : (a : Axis) (child parent : ℕ) (z : ℤ) (ss : List Slot) → length (tied a child parent z ss) ≡ length ss
 unfolding tied
 tied-length a child parent z ss =
-    separated-length a (slot (hung a child parent z ss) child .chain) parent (hung a child parent z ss)
+    separated-length a (chainTo child parent) parent (childAttached a child parent z ss)
     ∙ length-update child _ (reversed a ss child parent) ∙ length-reversed a ss child parent
 
 -- by the flag
 crossed-length : (a : Axis) (later : Bool) (i idx : ℕ) (exit entry : ℤ) (ss : List Slot) → length (crossed a later i idx exit entry ss) ≡ length ss
-crossed-length a true i idx exit entry ss = tied-length a i idx (less entry exit) ss
-crossed-length a false i idx exit entry ss = tied-length a idx i (negated (less entry exit)) ss
+crossed-length a true i idx exit entry ss = tied-length a i idx (satSub entry exit) ss
+crossed-length a false i idx exit entry ss = tied-length a idx i (satNeg (satSub entry exit)) ss
 
 -- ---- both
 module _ (s u : ℕ) (d : Direction) (flag i : ℕ) where
   -- two slots joined
-  joined-keeps : (j : ℕ) (exit entry : Spot) → KeepsClusters (joinedAt s u d flag j i exit entry)
+  joined-keeps : (j : ℕ) (exit entry : Point) → KeepsClusters (joinedAt s u d flag j i exit entry)
   unfolding joinedAt
   joined-keeps j exit entry =
       keeps-after _ (crossed (cross d) (rightToLeft flag) j i (scaledAt s u (cross d) exit) (scaledAt s u (cross d) entry))

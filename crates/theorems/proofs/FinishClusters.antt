@@ -6,31 +6,31 @@ use lib.ListN.{length}
 use Rattle.slots.specs.Axis.{forward}
 use Rattle.slots.specs.Line.{slot, update}
 use Rattle.slots.specs.Fields.{offset}
-use Rattle.slots.specs.Clusters.{Blind, KeepsClusters, withClusters}
+use Rattle.slots.specs.theorems.Clusters.{Blind, KeepsClusters, withClusters}
 use Rattle.slots.specs.Parent.{byParent, cleared, parent}
 use Rattle.slots.specs.declared.axis.Axis.{Axis}
 use Rattle.slots.specs.declared.axis.Axis.the-variants.{X, Y}
 use Rattle.slots.specs.declared.axis.Direction.{Direction}
 use Rattle.slots.specs.declared.fields.Measure.the-variants.{Offset}
 use Rattle.theorems.proofs.ClusterLaws.{advances-blind, blind-by, by-parent-keeps, cleared-keeps, if-keeps, keeps-after, keeps-by, length-blind, measure-blind, parent-blind, same-keeps, type-blind, update-keeps}
-use Rattle.finish.specs.Finish.{finished, isMain, joined, kindOf, newOffset, settled, settledDown, settledUp, taken, walked, withOffsets}
+use Rattle.finish.specs.Finish.{finished, isMain, takenIn, attachKind, newOffset, settled, settledDown, settledUp, newOffsetBy, shifted, withOffsets}
 use Rattle.finish.proofs.Pens.{walked-same}
 
 module _ (d : Direction) where
   -- the advances between two slots put to a number
-  walked-blind : (a : Axis) (i j : ℕ) → Blind (λ l. walked d a l i j)
+  walked-blind : (a : Axis) (i j : ℕ) → Blind (λ l. shifted d a l i j)
   walked-blind a i j cs ss = walked-same d a ss (withClusters cs ss) i j (advances-blind a cs ss)
 
   -- a new offset
   offset-blind : (i j : ℕ) (a : Axis) → Blind (λ l. newOffset d l i j a)
   offset-blind i j a =
-      blind-by (type-blind i) (λ k l. taken (kindOf k) (isMain d a) (walked d a l i j) (offset a (slot l i)) (offset a (slot l j)))
-      (λ k. blind-by (walked-blind a i j) (λ w l. taken (kindOf k) (isMain d a) w (offset a (slot l i)) (offset a (slot l j)))
-      (λ w cs ss. ap₂ (taken (kindOf k) (isMain d a) w) (measure-blind Offset a i cs ss) (measure-blind Offset a j cs ss)))
+      blind-by (type-blind i) (λ k l. newOffsetBy (attachKind k) (isMain d a) (shifted d a l i j) (offset a (slot l i)) (offset a (slot l j)))
+      (λ k. blind-by (walked-blind a i j) (λ w l. newOffsetBy (attachKind k) (isMain d a) w (offset a (slot l i)) (offset a (slot l j)))
+      (λ w cs ss. ap₂ (newOffsetBy (attachKind k) (isMain d a) w) (measure-blind Offset a i cs ss) (measure-blind Offset a j cs ss)))
 
   -- a parent taken in
-  joined-keeps : (i j : ℕ) → KeepsClusters (λ l. joined d l i j)
-  unfolding joined
+  joined-keeps : (i j : ℕ) → KeepsClusters (λ l. takenIn d l i j)
+  unfolding takenIn
   joined-keeps i j =
       keeps-by (offset-blind i j X) (λ x l. update i (withOffsets x (newOffset d l i j Y)) l)
       (λ x. keeps-by (offset-blind i j Y) (λ y. update i (withOffsets x y)) (λ y. update-keeps (withOffsets x y) (λ c s. refl) i))
@@ -42,9 +42,9 @@ module _ (d : Direction) where
       keeps-by (parent-blind i) (λ p l. byParent p l (cleared l i) (λ j. cleared l i))
       (by-parent-keeps (λ l. l) (λ l. cleared l i) same-keeps (cleared-keeps i) (λ j l. cleared l i) (λ j. cleared-keeps i))
   settled-keeps (suc n) i =
-      keeps-by (parent-blind i) (λ p l. byParent p l (cleared l i) (λ j. joined d (settled d n (cleared l i) j) i j))
-      (by-parent-keeps (λ l. l) (λ l. cleared l i) same-keeps (cleared-keeps i) (λ j l. joined d (settled d n (cleared l i) j) i j)
-      (λ j. keeps-after (λ l. settled d n (cleared l i) j) (λ l. joined d l i j)
+      keeps-by (parent-blind i) (λ p l. byParent p l (cleared l i) (λ j. takenIn d (settled d n (cleared l i) j) i j))
+      (by-parent-keeps (λ l. l) (λ l. cleared l i) same-keeps (cleared-keeps i) (λ j l. takenIn d (settled d n (cleared l i) j) i j)
+      (λ j. keeps-after (λ l. settled d n (cleared l i) j) (λ l. takenIn d l i j)
       (keeps-after (λ l. cleared l i) (λ l. settled d n l j) (cleared-keeps i) (settled-keeps n j)) (joined-keeps i j)))
 
   -- the first k slots settled, from the first up

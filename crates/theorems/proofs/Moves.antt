@@ -7,12 +7,14 @@ use native.Mathlib.Omega.{arith}
 use borrow.Author.Tests.{eq-eqb, le-ltb, not-false}
 use lib.Dec.{eqb}
 use lib.ListN.{length}
-use Rattle.ints.specs.BigEndian.{Bytes}
+use Rattle.ints.specs.BigEndian.{AllBytes}
 use Rattle.ints.proofs.TestLaws.{or-false}
-use Rattle.slots.specs.Checks.{misshapen, mostSlots, unranged}
-use Rattle.slots.specs.Clusters.{isNumberedFrom, numberedFrom, plainLine, plainN, withClusters}
+use Rattle.slots.specs.Checks.{badLine, mostSlots, badSlots}
+use Rattle.slots.specs.Numbered.{isNumberedFrom, numberedFrom}
+use Rattle.slots.specs.theorems.Clusters.{plainLine, plainN, withClusters}
 use Rattle.slots.specs.Fields.{withCluster}
-use Rattle.slots.specs.Line.{AllStorable, bytes, count, lineSlots, shapeOf}
+use Rattle.slots.specs.theorems.Storable.{AllStorable}
+use Rattle.slots.specs.Line.{bytes, count, lineSlots, shapeOf}
 use Rattle.slots.specs.Slot.{clusteredSize, Slot, slotSize}
 use Rattle.theorems.proofs.ClusterLaws.{numbered-with, range-blind, upFrom}
 use Rattle.slots.proofs.LineLaws.{bytes-slots, count-bytes, length-bytes, length-slots, line-short, shapely, slots-bytes, slots-storable}
@@ -26,19 +28,19 @@ use Rattle.answers.proofs.SaidLaws.{saidMoved-same}
 use Rattle.answers.proofs.TestLaws.{clear-first}
 use Rattle.theorems.specs.Clusters.{Apart, Same}
 use Rattle.theorems.proofs.Clusters.{same-without}
-use Rattle.gpos.specs.Moves.{Clustered, moveSaid, Unclustered}
+use Rattle.gpos.specs.Moving.{ToClustersCall, moveSaid, FromClustersCall}
 
 -- ---- what is known where a move of l, of slots of z bytes, is done
 pub record Fine (z : ℕ) (lost : Bool) (l : List ℕ) : Type 0 where
-  pub good : misshapen z l ≡ false
-  pub ranges : unranged (lineSlots z l) ≡ false
+  pub good : badLine z l ≡ false
+  pub ranges : badSlots (lineSlots z l) ≡ false
   pub kept : lost ≡ false
 
 fine : (z y : ℕ) (lost : Bool) (l t : List ℕ) → done ≡ moveSaid z y lost l t → Fine z lost l
 fine z y lost l t e =
     let last : List (Bool × ℕ) = (not (eqb (length t) (count z l * y)) || lost, 10) ∷ [] in
-    let one = clear-first (misshapen z l) 1 ((unranged (lineSlots z l), 4) ∷ last) (sym e) in
-    let four = clear-first (unranged (lineSlots z l)) 4 last (one .1) in
+    let one = clear-first (badLine z l) 1 ((badSlots (lineSlots z l), 4) ∷ last) (sym e) in
+    let four = clear-first (badSlots (lineSlots z l)) 4 last (one .1) in
     let ten = clear-first (not (eqb (length t) (count z l * y)) || lost) 10 [] (four .1) in
     record { good = one .0; ranges = four .0; kept = or-false (not (eqb (length t) (count z l * y))) lost (ten .0) .1 }
 
@@ -74,7 +76,7 @@ zeros-with [] = refl
 zeros-with (s ∷ ss) = ap (λ (r : List Slot). withCluster 0 s ∷ r) (zeros-with ss)
 
 -- ---- what the move to slots with a cluster leaves
-module _ (l t t′ : List ℕ) (b : Bytes l) (there : Clustered l t MovedNow t′) where
+module _ (l t t′ : List ℕ) (b : AllBytes l) (there : ToClustersCall l t MovedNow t′) where
   abbrev ss : List Slot
   ss = lineSlots slotSize l
 
@@ -109,7 +111,7 @@ module _ (l t t′ : List ℕ) (b : Bytes l) (there : Clustered l t MovedNow t�
       ∙ bytes-slots slotSize refl l (shapely slotSize l (there-fine .good)) b
 
   -- it is a line of slots with a cluster, whose old bytes are the line that was moved
-  pub moved-plain : (misshapen clusteredSize t′ ≡ false) × (plainLine t′ ≡ l)
+  pub moved-plain : (badLine clusteredSize t′ ≡ false) × (plainLine t′ ≡ l)
   moved-plain =
       let none : length t′ % clusteredSize ≡ 0 = omega (arith, length-moved) in (
         rw (
@@ -121,12 +123,12 @@ module _ (l t t′ : List ℕ) (b : Bytes l) (there : Clustered l t MovedNow t�
       )
 
   -- so a call on the moved line does what it does on the old one, and keeps every cluster
-  pub same-moved : (c : Call) → Apart c → (r : Said) (k : List ℕ) (q : Said) (m : List ℕ) → Bytes t′ → Made c clusteredSize t′ r k → Made c slotSize l q m → Same t′ r k q m
+  pub same-moved : (c : Call) → Apart c → (r : Said) (k : List ℕ) (q : Said) (m : List ℕ) → AllBytes t′ → Made c clusteredSize t′ r k → Made c slotSize l q m → Same t′ r k q m
   same-moved c apart r k q m b′ o p =
       same-without c apart t′ r k q m b′ (moved-plain .0) o (subst (λ (x : List ℕ). Made c slotSize x q m) (sym (moved-plain .1)) p)
 
   -- and moving it back is done, and gives the same bytes
-  pub there-and-back : (u u′ : List ℕ) (r : Moved) → length u ≡ length l → Unclustered t′ u r u′ → (r ≡ MovedNow) × (u′ ≡ l)
+  pub there-and-back : (u u′ : List ℕ) (r : Moved) → length u ≡ length l → FromClustersCall t′ u r u′ → (r ≡ MovedNow) × (u′ ≡ l)
   there-and-back u u′ r same back = (
     saidMoved-same r MovedNow (back .answer ∙ says),
     back .line ∙ ap (λ (s : Said). lineAfter slotSize s u (lineSlots clusteredSize t′)) says ∙ ap (bytes slotSize) slots-are ∙ old-bytes,
@@ -138,7 +140,7 @@ module _ (l t t′ : List ℕ) (b : Bytes l) (there : Clustered l t MovedNow t�
       back-fine : Fine clusteredSize lost t′
       back-fine = record {
         good = moved-plain .0;
-        ranges = ap unranged (slots-are ∙ numbered-with 0 ss) ∙ range-blind (upFrom 0 (length ss)) ss ∙ there-fine .ranges;
+        ranges = ap badSlots (slots-are ∙ numbered-with 0 ss) ∙ range-blind (upFrom 0 (length ss)) ss ∙ there-fine .ranges;
         kept = ap (λ (x : List Slot). not (isNumberedFrom 0 x)) slots-are ∙ ap not (numbered-is 0 ss);
       }
 
@@ -146,8 +148,8 @@ module _ (l t t′ : List ℕ) (b : Bytes l) (there : Clustered l t MovedNow t�
       says = says-done clusteredSize slotSize lost t′ u back-fine (omega (arith, same, long, length-moved))
 
 -- ---- and the other way: to slots without one, and back
-module _ (l t t′ u u′ : List ℕ) (r : Moved) (b : Bytes l) (same : length u ≡ length l) where
-  pub back-and-there : Unclustered l t MovedNow t′ → Clustered t′ u r u′ → (r ≡ MovedNow) × (u′ ≡ l)
+module _ (l t t′ u u′ : List ℕ) (r : Moved) (b : AllBytes l) (same : length u ≡ length l) where
+  pub back-and-there : FromClustersCall l t MovedNow t′ → ToClustersCall t′ u r u′ → (r ≡ MovedNow) × (u′ ≡ l)
   back-and-there back there = (saidMoved-same r MovedNow (there .answer ∙ says), there .line ∙ ap (λ (s : Said). lineAfter clusteredSize s u (numberedFrom 0 (lineSlots slotSize t′))) says ∙ bytes-are)
     where
       ss : List Slot
@@ -177,16 +179,16 @@ module _ (l t t′ u u′ : List ℕ) (r : Moved) (b : Bytes l) (same : length u
       slots-are : lineSlots slotSize t′ ≡ map (withCluster 0) ss
       slots-are = ap (lineSlots slotSize) moved ∙ plain-slots l (back-fine .good) ∙ ap (λ (k : ℕ). withClusters (zeros k) ss) (sym many) ∙ zeros-with ss
 
-      good : misshapen slotSize t′ ≡ false
-      good = ap (misshapen slotSize) moved ∙ plain-good l (back-fine .good)
+      good : badLine slotSize t′ ≡ false
+      good = ap (badLine slotSize) moved ∙ plain-good l (back-fine .good)
 
       length-moved : length t′ ≡ n * slotSize
       length-moved =
           ap length (back .line ∙ ap (λ (s : Said). lineAfter slotSize s t ss) (sym (back .answer)))
           ∙ length-bytes slotSize refl ss ∙ ap (λ (k : ℕ). k * slotSize) many
 
-      ranges : unranged (lineSlots slotSize t′) ≡ false
-      ranges = ap unranged (slots-are ∙ sym (zeros-with ss)) ∙ range-blind (zeros (length ss)) ss ∙ back-fine .ranges
+      ranges : badSlots (lineSlots slotSize t′) ≡ false
+      ranges = ap badSlots (slots-are ∙ sym (zeros-with ss)) ∙ range-blind (zeros (length ss)) ss ∙ back-fine .ranges
 
       says : moveSaid slotSize clusteredSize false t′ u ≡ done
       says = says-done slotSize clusteredSize false t′ u (record { good = good; ranges = ranges; kept = refl }) (omega (arith, same, long, length-moved))

@@ -12,10 +12,11 @@ use Rattle.ints.specs.BigEndian.{digits, natAt}
 use Rattle.ints.specs.Signed.{intAt}
 use Rattle.ints.proofs.TestLaws.{clash}
 use Rattle.slots.specs.Slot.{bytesOf, clusteredSize, known, plainBytes, Slot, slotOf, slotSize}
-use Rattle.slots.specs.Line.{AllStorable, bytes, count, lineSlots, slots, slotsN}
-use Rattle.slots.specs.Checks.{misshapen, mostSlots}
+use Rattle.slots.specs.theorems.Storable.{AllStorable}
+use Rattle.slots.specs.Line.{bytes, count, lineSlots, slots, slotsN}
+use Rattle.slots.specs.Checks.{badLine, mostSlots}
 use Rattle.slots.specs.Fields.{withCluster}
-use Rattle.slots.specs.Clusters.{clusters, plainLine, plainN, withClusters}
+use Rattle.slots.specs.theorems.Clusters.{clusters, plainLine, plainN, withClusters}
 use Rattle.slots.proofs.Cells.{by-cells}
 use Rattle.slots.proofs.LineLaws.{line-short, shapely}
 use Rattle.slots.proofs.SlotLaws.{cluster-read, length-bytesOf, length-plain}
@@ -104,7 +105,7 @@ length-plain-n (suc n) l h =
     rw (length-append (take slotSize l) (plainN n (drop clusteredSize l)), length-take-le slotSize l (omega arith), length-plain-n n (drop clusteredSize l) rest)
     (omega (arith, suc-mul n slotSize))
 
-module _ (l : List ℕ) (good : misshapen clusteredSize l ≡ false) where
+module _ (l : List ℕ) (good : badLine clusteredSize l ≡ false) where
   abbrev many : ℕ
   many = count clusteredSize l
 
@@ -118,7 +119,7 @@ module _ (l : List ℕ) (good : misshapen clusteredSize l ≡ false) where
   few = omega (arith, whole, line-short clusteredSize l good)
 
   -- its old bytes aren't, either
-  pub plain-good : misshapen slotSize (plainLine l) ≡ false
+  pub plain-good : badLine slotSize (plainLine l) ≡ false
   plain-good =
       let none : length (plainLine l) % slotSize ≡ 0 = omega (arith, length-line) in
       rw (eq-eqb (length (plainLine l) % slotSize) 0 none, le-ltb (mostSlots * slotSize) (length (plainLine l)) (omega (arith, length-line, few)))

@@ -6,7 +6,7 @@ use Prim.Native.Nat.{ℕ}
 use lib.ListN.{length}
 use Rattle.slots.specs.Slot.{Slot}
 use Rattle.slots.specs.Line.{slot}
-use Rattle.slots.specs.Clusters.{Blind, KeepsClusters}
+use Rattle.slots.specs.theorems.Clusters.{Blind, KeepsClusters}
 use Rattle.slots.specs.declared.axis.Direction.{Direction}
 use Rattle.theorems.proofs.ClusterLaws.{blind-as, glyph-blind, keeps-by, same-keeps, update-keeps}
 use Rattle.slots.proofs.LineLaws.{length-update}

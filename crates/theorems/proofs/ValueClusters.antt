@@ -5,14 +5,14 @@ use mathlib.Core.Path.{_≡_, refl}
 use Prim.Native.Nat.{ℕ, zero, suc}
 use lib.IntN.{ℤ}
 use Rattle.ints.specs.Choice.{if_then_else_}
-use Rattle.ints.specs.Saturating.{less, plus}
+use Rattle.ints.specs.Saturating.{satSub, satAdd}
 use Rattle.ints.specs.Scale.{scaled}
 use Rattle.slots.specs.Slot.{Slot}
 use Rattle.slots.specs.Fields.{measure, withCluster, withMeasure}
 use Rattle.slots.specs.declared.axis.Direction.{Direction}
 use Rattle.theorems.proofs.ClusterLaws.{measure-keeps, measure-sees, slot-after, slot-by, SlotKeeps}
 use Rattle.values.specs.Format.{fieldValue, has}
-use Rattle.values.specs.Touch.{Touch, skipped, added, subtracted, touched, touches}
+use Rattle.values.specs.FieldEffect.{FieldEffect, skipped, added, subtracted, withEffect, effectOf}
 use Rattle.values.specs.Value.{cut, valued, withField, withFields}
 
 -- a choice between two changes
@@ -21,17 +21,17 @@ choice-keeps f g h k true = h
 choice-keeps f g h k false = k
 
 -- a scaled value put to what is touched
-touched-keeps : (t : Touch) (z : ℤ) → SlotKeeps (touched t z)
+touched-keeps : (t : FieldEffect) (z : ℤ) → SlotKeeps (withEffect t z)
 touched-keeps skipped z = λ c s. refl
-touched-keeps (added m a) z = slot-by (measure m a) (λ w. withMeasure m a (plus w z)) (measure-sees m a) (λ w. measure-keeps m a (plus w z))
-touched-keeps (subtracted m a) z = slot-by (measure m a) (λ w. withMeasure m a (less w z)) (measure-sees m a) (λ w. measure-keeps m a (less w z))
+touched-keeps (added m a) z = slot-by (measure m a) (λ w. withMeasure m a (satAdd w z)) (measure-sees m a) (λ w. measure-keeps m a (satAdd w z))
+touched-keeps (subtracted m a) z = slot-by (measure m a) (λ w. withMeasure m a (satSub w z)) (measure-sees m a) (λ w. measure-keeps m a (satSub w z))
 
 module _ (s u : ℕ) (d : Direction) (r : List ℕ) (f : ℕ) where
   -- one field
   field-keeps : (b : ℕ) → SlotKeeps (withField s u d r f b)
   field-keeps b =
       let z : ℤ = scaled (fieldValue r f b) s u in
-      choice-keeps (touched (touches d b) z) (λ slot. slot) (touched-keeps (touches d b) z) (λ c slot. refl) (has f b)
+      choice-keeps (withEffect (effectOf d b) z) (λ slot. slot) (touched-keeps (effectOf d b) z) (λ c slot. refl) (has f b)
 
   -- the first n fields
   fields-keep : (n : ℕ) → SlotKeeps (withFields s u d r f n)

@@ -10,17 +10,17 @@ use Rattle.ints.specs.Saturating.{clamp32, minus}
 use Rattle.ints.specs.Scale.{floorDiv, scaled}
 use Rattle.ints.specs.Signed.{intAt, pattern, signed}
 use Rattle.ints.specs.Sums.{stepwise}
-use Rattle.counts.specs.Tally.{bit, tally}
+use Rattle.ints.specs.Tally.{bit, tally}
 use Rattle.slots.specs.Axis.{directionOf}
 use Rattle.slots.specs.Checks.{some}
-use Rattle.slots.specs.Fields.{attached, moved, named}
+use Rattle.slots.specs.Fields.{attached, withPlace, withIdentity}
 use Rattle.slots.specs.Line.{bytes, slot, slots, slotsN, update}
 use Rattle.slots.specs.Parent.{cleared, parent}
 use Rattle.slots.specs.Slot.{noSlot, plainBytes, Slot, slotOf}
 use Rattle.tables.specs.Header.{headerGood}
 use Rattle.tables.specs.Spans.{ascends, firstHolding, spanAt, spansFrom}
 use Rattle.values.specs.Format.{setBelow}
-use Rattle.values.specs.Touch.{touches}
+use Rattle.values.specs.FieldEffect.{effectOf}
 use Rattle.values.specs.Value.{fieldsWork, valued, withFields, worked as recordWorked}
 use Rattle.single.specs.SinglePos.{placeFor, singleGood}
 use Rattle.ints.proofs.Examples.{words}
@@ -32,19 +32,20 @@ use Rattle.cursive.specs.Chains.{attachedCount}
 use Rattle.cursive.specs.CursivePos.{planOf as cursivePlan}
 use Rattle.cursive.specs.Reversal.{reversed, reversedIn, turned}
 use Rattle.marks.specs.Component.{componentIndex}
-use Rattle.marks.specs.MarkPos.{anchorsFor, baseIndex, markIndex, marksGood}
+use Rattle.marks.specs.Anchors.{anchorsFor}
+use Rattle.marks.specs.MarkPos.{baseIndex, markIndex, marksGood}
 use Rattle.marks.specs.Plan.{planOf as markPlan}
 use Rattle.marks.specs.Search.{nearest, stopsAt}
-use Rattle.marks.specs.Walk.{crossWalk, walkIn}
-use Rattle.marks.specs.declared.subtable.Kind.the-variants.{Ligature}
-use Rattle.finish.specs.Finish.{finished, joined, settled, settledUp, walked}
-use Rattle.answers.specs.Said.{applied, break, concat, Said}
-use Rattle.answers.specs.declared.Neighbour.the-variants.{At}
-use Rattle.gpos.specs.Cursive.{cursive as cursiveCall}
-use Rattle.gpos.specs.Finish.{finish as finishCall}
-use Rattle.gpos.specs.Marks.{mark as markCall}
-use Rattle.gpos.specs.Pair.{pair as pairCall}
-use Rattle.gpos.specs.Single.{single as singleCall}
+use Rattle.marks.specs.Walk.{crossOffset, crossOffsetIn}
+use Rattle.marks.specs.declared.mark_pos.Target.the-variants.{Ligature}
+use Rattle.finish.specs.Finish.{finished, takenIn, settled, settledUp, shifted}
+use Rattle.answers.specs.Said.{applied, unsafeToBreak, unsafeToConcat, Said}
+use Rattle.answers.specs.declared.Neighbour.the-variants.{Named}
+use Rattle.gpos.specs.CursivePos.{cursive as cursiveCall}
+use Rattle.gpos.specs.Finishing.{finish as finishCall}
+use Rattle.gpos.specs.MarkPos.{mark as markCall}
+use Rattle.gpos.specs.PairPos.{pair as pairCall}
+use Rattle.gpos.specs.SinglePos.{single as singleCall}
 use Rattle.theorems.proofs.Results.{Result, result}
 
 -- ---- what a sum gives
@@ -86,17 +87,17 @@ row r given = record { found = map (computed r) given; given = given }
 -- ---- lines, as bytes
 -- a slot of a glyph with this x advance, all else 0; one attached by its type and chain, with this y offset
 abbrev wide : ℕ → ℕ → Slot
-wide g xa = moved (pos xa) (pos 0) (pos 0) (pos 0) (named g 0 0 0 noSlot)
+wide g xa = withPlace (pos xa) (pos 0) (pos 0) (pos 0) (withIdentity g 0 0 0 noSlot)
 
 abbrev hanging : ℕ → ℕ → ℤ → ℕ → Slot
-hanging g type c yo = attached type c (moved (pos 0) (pos 0) (pos 0) (pos yo) (named g 0 0 0 noSlot))
+hanging g type c yo = attached type c (withPlace (pos 0) (pos 0) (pos 0) (pos yo) (withIdentity g 0 0 0 noSlot))
 
 -- a ligature that is seen, and a mark with the same id, 3, by its component
 abbrev ligature : Slot
-ligature = named 5 3 0 1 noSlot
+ligature = withIdentity 5 3 0 1 noSlot
 
 abbrev mark : ℕ → Slot
-mark c = named 9 3 c 2 noSlot
+mark c = withIdentity 9 3 c 2 noSlot
 
 -- ---- subtables, by their numbers of 16 bits
 -- P2's record: FF F6 00 14
@@ -132,11 +133,11 @@ single z s u f bs direction = result (singleCall (singleTable f bs) direction s 
 
 -- pair adjustment of slots 0 and 1, direction 0, by the two value formats and the records
 abbrev pair : ℕ → ℕ → ℕ → List ℕ → Result
-pair z f₁ f₂ bs = result (pairCall (pairTable f₁ f₂ bs) 0 1000 1000 0 (At 1)) z (bytes z (wide 5 0 ∷ wide 7 0 ∷ []))
+pair z f₁ f₂ bs = result (pairCall (pairTable f₁ f₂ bs) 0 1000 1000 0 (Named 1)) z (bytes z (wide 5 0 ∷ wide 7 0 ∷ []))
 
 -- cursive attachment of slot i to slot p, direction 0, by the lookup's flag
 abbrev cursive : ℕ → List Slot → ℕ → ℕ → ℕ → Result
-cursive z ss p i flag = result (cursiveCall cursiveTable 0 1000 1000 i (At p) flag) z (bytes z ss)
+cursive z ss p i flag = result (cursiveCall cursiveTable 0 1000 1000 i (Named p) flag) z (bytes z ss)
 
 -- attachment of a mark of component c in slot 1 to a ligature in slot 0, direction 0
 abbrev markLigature : ℕ → ℕ → Result
@@ -163,10 +164,10 @@ table z =
     -- P4 Format 8, value 20, direction 2: y advance -20.
     ∷ row (single z 1000 1000 8 (values (pos 20 ∷ [])) 2) (yAdvance 0 (minus 20) ∷ [])
     -- P5 Pair 0,1, formats 4 and 0, -50, direction 0: next 1, break [0,2). With 0 in place of -50: concat [0,2), still applied.
-    ∷ row (pair z 4 0 (values (minus 50 ∷ []))) (says (applied 1 (break 0 2 ∷ []) false) ∷ [])
-    ∷ row (pair z 4 0 (values (pos 0 ∷ []))) (says (applied 1 (concat 0 2 ∷ []) false) ∷ [])
+    ∷ row (pair z 4 0 (values (minus 50 ∷ []))) (says (applied 1 (unsafeToBreak 0 2 ∷ []) false) ∷ [])
+    ∷ row (pair z 4 0 (values (pos 0 ∷ []))) (says (applied 1 (unsafeToConcat 0 2 ∷ []) false) ∷ [])
     -- P6 Formats 4 and 4, -50 and 0, two slots: break [0,2), break [0,3), next 2.
-    ∷ row (pair z 4 4 (values (minus 50 ∷ pos 0 ∷ []))) (says (applied 2 (break 0 2 ∷ break 0 3 ∷ []) false) ∷ [])
+    ∷ row (pair z 4 4 (values (minus 50 ∷ pos 0 ∷ []))) (says (applied 2 (unsafeToBreak 0 2 ∷ unsafeToBreak 0 3 ∷ []) false) ∷ [])
     -- P7 Cursive 0,1, direction 0, flag clear, exit (500,20), entry (30,5), advances 600, offsets 0: slot 0 advance 500; slot 1 advance 570, x offset -30,
     -- y offset 15, chain -1.
     ∷ row (cursive z (wide 5 600 ∷ wide 6 600 ∷ []) 0 1 0)
@@ -189,7 +190,7 @@ table z =
 pub worked-sums : (map (λ (x : Row). x .found) (table 24) ≡ map (λ (x : Row). x .given) (table 24))
     × (map (λ (x : Row). x .found) (table 28) ≡ map (λ (x : Row). x .given) (table 28))
 unfolding natAt digits pattern intAt signed clamp32 floorDiv scaled stepwise bit tally some bytes plainBytes slotOf slots slotsN update parent
-    ascends firstHolding spanAt spansFrom setBelow touches fieldsWork valued withFields recordWorked headerGood placeFor singleGood
+    ascends firstHolding spanAt spansFrom setBelow effectOf fieldsWork valued withFields recordWorked headerGood placeFor singleGood
     classesGood pairGood probeIn pairPlan joinedAt separatedBy tied attachedCount cursivePlan reversed reversedIn turned
-    anchorsFor baseIndex markIndex marksGood markPlan nearest stopsAt crossWalk walkIn cleared finished joined settled settledUp walked
+    anchorsFor baseIndex markIndex marksGood markPlan nearest stopsAt crossOffset crossOffsetIn cleared finished takenIn settled settledUp shifted
 worked-sums = (refl, refl)

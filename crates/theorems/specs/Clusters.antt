@@ -3,7 +3,7 @@ use mathlib.Core.List.{List}
 use mathlib.Core.Path.{_≡_}
 use Prim.Native.Nat.{ℕ}
 use lib.ListN.{length}
-use Rattle.slots.specs.Clusters.{Blind, clusters, KeepsClusters, plainLine}
+use Rattle.slots.specs.theorems.Clusters.{Blind, clusters, KeepsClusters, plainLine}
 use Rattle.slots.specs.Line.{lineSlots}
 use Rattle.slots.specs.Slot.{clusteredSize, Slot}
 use Rattle.answers.specs.Outcome.{Call}

@@ -10,9 +10,9 @@ use Rattle.ints.specs.Scale.{floorDiv, scaled}
 use Rattle.ints.specs.Signed.{intAt, signed}
 use Rattle.slots.specs.Axis.{directionOf}
 use Rattle.slots.specs.Slot.{Slot, noSlot}
-use Rattle.slots.specs.Fields.{moved}
+use Rattle.slots.specs.Fields.{withPlace}
 use Rattle.values.specs.Format.{setBelow}
-use Rattle.values.specs.Touch.{touches}
+use Rattle.values.specs.FieldEffect.{effectOf}
 use Rattle.values.specs.Value.{fieldsWork, valued, withFields, worked}
 
 -- what a slot becomes, and whether the record worked
@@ -31,7 +31,7 @@ row f r n s u xo yo xa ya w =
     let d = directionOf n in
     record {
       done = record { slot = valued s u d r f noSlot; works = worked d r f };
-      right = record { slot = moved xa ya xo yo noSlot; works = w };
+      right = record { slot = withPlace xa ya xo yo noSlot; works = w };
     }
 
 -- the cases, one to a line
@@ -45,7 +45,7 @@ table =
 
 -- each is as it should be
 pub computed : map (λ (x : Row). x .done) table ≡ map (λ (x : Row). x .right) table
-unfolding natAt clamp32 floorDiv scaled intAt signed setBelow touches fieldsWork valued withFields worked
+unfolding natAt clamp32 floorDiv scaled intAt signed setBelow effectOf fieldsWork valued withFields worked
 computed = refl
 
 -- ---- at the ends
@@ -70,11 +70,11 @@ ends =
     ∷ []
 
 pub at-ends : map (λ (x : Row). x .done) ends ≡ map (λ (x : Row). x .right) ends
-unfolding natAt clamp32 floorDiv scaled intAt signed setBelow touches fieldsWork valued withFields worked
+unfolding natAt clamp32 floorDiv scaled intAt signed setBelow effectOf fieldsWork valued withFields worked
 at-ends = refl
 
 -- x offset 2147483647 and 1 more, y advance -2147483648 less 1: both stay
-pub saturates : valued 1000 1000 (directionOf 3) (0 ∷ 1 ∷ 0 ∷ 1 ∷ []) 9 (moved (pos 0) (minus 2147483648) (pos 2147483647) (pos 0) noSlot)
-    ≡ moved (pos 0) (minus 2147483648) (pos 2147483647) (pos 0) noSlot
-unfolding natAt clamp32 floorDiv scaled intAt signed setBelow touches valued withFields
+pub saturates : valued 1000 1000 (directionOf 3) (0 ∷ 1 ∷ 0 ∷ 1 ∷ []) 9 (withPlace (pos 0) (minus 2147483648) (pos 2147483647) (pos 0) noSlot)
+    ≡ withPlace (pos 0) (minus 2147483648) (pos 2147483647) (pos 0) noSlot
+unfolding natAt clamp32 floorDiv scaled intAt signed setBelow effectOf valued withFields
 saturates = refl

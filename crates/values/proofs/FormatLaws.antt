@@ -15,7 +15,8 @@ use lib.Pow.{pow-mono, pow-pos, mod-pow-add, shl-exact, shr-le, shr-lt, shr-shr}
 use lib.Seq.{length-take-le}
 use borrow.Author.Tests.{leb-true}
 use Rattle.ints.specs.Choice.{if_then_else_}
-use Rattle.values.specs.Format.{bitOf, fieldPlace, recordAt, recordLength, setBelow, WholeOrEmpty}
+use Rattle.values.specs.Format.{bitOf, fieldPlace, recordAt, recordLength, setBelow}
+use Rattle.values.specs.code.Format.{WholeOrEmpty}
 
 -- ---- counting
 -- a bit counts itself

@@ -13,8 +13,8 @@ use Rattle.slots.specs.declared.axis.Axis.the-variants.{X, Y}
 use Rattle.slots.specs.declared.axis.Direction.{Direction}
 use Rattle.slots.specs.declared.axis.Direction.the-variants.{LeftToRight, RightToLeft, TopToBottom, BottomToTop}
 use Rattle.slots.specs.declared.fields.Measure.the-variants.{Advance, Offset}
-use Rattle.values.specs.Codes.{rowOf, touchBy}
-use Rattle.values.specs.Touch.{Touch, skipped, added, subtracted, touches}
+use Rattle.values.specs.code.Codes.{effectRow, effectBy}
+use Rattle.values.specs.FieldEffect.{FieldEffect, skipped, added, subtracted, effectOf}
 
 -- ---- any table
 -- n values of a rule, from k on
@@ -40,11 +40,11 @@ agree f g n i e h = sym (entry f (f 0) n i (build f 0 n) refl h) ∙ entry g (f 
 
 -- ---- the table of 32
 -- what stands at place i by the rule: direction i / 8, field i % 8
-abbrev rule : ℕ → Touch
-rule i = touches (directionOf (i / 8)) (i % 8)
+abbrev rule : ℕ → FieldEffect
+rule i = effectOf (directionOf (i / 8)) (i % 8)
 
 -- the number that stands for it
-abbrev codeOf : Touch → ℕ
+abbrev codeOf : FieldEffect → ℕ
 codeOf skipped = 0
 codeOf (added Offset X) = 1
 codeOf (added Offset Y) = 2
@@ -55,31 +55,31 @@ abbrev pub code : ℕ → ℕ
 code i = codeOf (rule i)
 
 -- each of the 32 numbers is one of the five, and is read as what the rule says
-code-read : (i : ℕ) → i < 32 → (touchBy (code i) ≡ rule i) × (code i < 5)
-unfolding touches
+code-read : (i : ℕ) → i < 32 → (effectBy (code i) ≡ rule i) × (code i < 5)
+unfolding effectOf
 code-read i h = (
-  agree (λ k. touchBy (code k)) rule 32 i refl h,
+  agree (λ k. effectBy (code k)) rule 32 i refl h,
   ltb-true (code i) 5 (agree (λ k. ltb (code k) 5) (λ k. true) 32 i refl h),
 )
 
 -- the place of field b in the row of direction d
-rule-at : (d : Direction) (b : ℕ) → b < 8 → (rule (rowOf d + b) ≡ touches d b) × (rowOf d + b < 32)
+rule-at : (d : Direction) (b : ℕ) → b < 8 → (rule (effectRow d + b) ≡ effectOf d b) × (effectRow d + b < 32)
 rule-at d b h = go d
   where
-    at : (n k : ℕ) → k / 8 ≡ n → k % 8 ≡ b → rule k ≡ touches (directionOf n) b
+    at : (n k : ℕ) → k / 8 ≡ n → k % 8 ≡ b → rule k ≡ effectOf (directionOf n) b
     at n k p q = rw (p, q)
 
-    go : (d : Direction) → (rule (rowOf d + b) ≡ touches d b) × (rowOf d + b < 32)
+    go : (d : Direction) → (rule (effectRow d + b) ≡ effectOf d b) × (effectRow d + b < 32)
     go LeftToRight = (at 0 (0 + b) (omega arith) (omega arith), omega arith)
     go RightToLeft = (at 1 (8 + b) (omega arith) (omega arith), omega arith)
     go TopToBottom = (at 2 (16 + b) (omega arith) (omega arith), omega arith)
     go BottomToTop = (at 3 (24 + b) (omega arith) (omega arith), omega arith)
 
 -- a table of the rule's codes says at field b in the row r of direction d what the rule says
-pub touch-at : (l : List ℕ) → l ≡ build code 0 32 → (d : Direction) (b r : ℕ) → b < 8 → r ≡ rowOf d →
-    (touchBy (getD l (r + b) 0) ≡ touches d b) × (getD l (r + b) 0 < 5)
+pub touch-at : (l : List ℕ) → l ≡ build code 0 32 → (d : Direction) (b r : ℕ) → b < 8 → r ≡ effectRow d →
+    (effectBy (getD l (r + b) 0) ≡ effectOf d b) × (getD l (r + b) 0 < 5)
 touch-at l e d b r h q =
     let p = rule-at d b h in
-    let t = code-read (rowOf d + b) (p .1) in
-    let x : getD l (r + b) 0 ≡ code (rowOf d + b) = rw q (entry code 0 32 (rowOf d + b) l e (p .1)) in
+    let t = code-read (effectRow d + b) (p .1) in
+    let x : getD l (r + b) 0 ≡ code (effectRow d + b) = rw q (entry code 0 32 (effectRow d + b) l e (p .1)) in
     rw x (t .0 ∙ p .0, t .1)

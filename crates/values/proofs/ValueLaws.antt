@@ -14,7 +14,8 @@ use lib.IntN.{ℤ, natAbs}
 use lib.ListN.{length, set}
 use lib.Pow.{shr-shr}
 use Rattle.ints.specs.Scale.{scaled}
-use Rattle.ints.specs.Signed.{signed, val}
+use Rattle.ints.specs.Signed.{signed}
+use Rattle.ints.specs.code.Signed.{val}
 use Rattle.ints.proofs.SignedLaws.{signed-same}
 use Rattle.ints.proofs.SizeLaws.{abs-zero}
 use Rattle.slots.specs.Slot.{Slot}
@@ -24,9 +25,9 @@ use Rattle.slots.specs.declared.axis.Axis.{Axis}
 use Rattle.slots.specs.declared.axis.Direction.{Direction}
 use Rattle.slots.specs.declared.fields.Measure.{Measure}
 use Rattle.slots.proofs.LineLaws.{update-both, update-none}
-use Rattle.values.specs.Codes.{touchBy}
+use Rattle.values.specs.code.Codes.{effectBy}
 use Rattle.values.specs.Format.{bitOf, fieldValue, recordLength, setBelow}
-use Rattle.values.specs.Touch.{applies, skipped, touched, touches}
+use Rattle.values.specs.FieldEffect.{applies, skipped, withEffect, effectOf}
 use Rattle.values.specs.Value.{fieldWorks, fieldsWork, valued, withField, withFields, worked}
 
 -- ---- one slot of a line
@@ -37,7 +38,7 @@ unfolding update
 put-measure op m a i z old new ss next e g h = h ∙ ap (λ (x : ℤ). set ss i (withMeasure m a x (slot ss i))) (g ∙ ap (λ (x : ℤ). op x z) e)
 
 -- what the code k touches, where the entry t is k
-pub by-code : (k t i : ℕ) (z : ℤ) (ss next : List Slot) → t ≡ k → next ≡ update i (touched (touchBy k) z) ss → next ≡ update i (touched (touchBy t) z) ss
+pub by-code : (k t i : ℕ) (z : ℤ) (ss next : List Slot) → t ≡ k → next ≡ update i (withEffect (effectBy k) z) ss → next ≡ update i (withEffect (effectBy t) z) ss
 by-code k t i z ss next e h = rw e h
 
 -- ---- one field
@@ -54,7 +55,7 @@ zero-bits v h = go (decLt 0 v)
     go (no n) = let e : v ≡ 0 = omega arith in rw e
 
 -- a code from 1 to 4 is no skipping
-applies-by : (t : ℕ) → (t ≡ 0 → ⊥) → t < 5 → applies (touchBy t) ≡ true
+applies-by : (t : ℕ) → (t ≡ 0 → ⊥) → t < 5 → applies (effectBy t) ≡ true
 applies-by zero ne h = absurd (ne refl)
 applies-by (suc zero) ne h = refl
 applies-by (suc (suc zero)) ne h = refl
@@ -74,19 +75,19 @@ module _ (s u : ℕ) (d : Direction) (r : List ℕ) (f b i : ℕ) (ss : List Slo
       let e = ne-eqb (bitOf f b) 1 ne in
       (simp e (sym (update-none i ss)), simp e)
 
-  pub field-skipped : bitOf f b ≡ 1 → skipped ≡ touches d b → OneField ss false
+  pub field-skipped : bitOf f b ≡ 1 → skipped ≡ effectOf d b → OneField ss false
   unfolding update
   field-skipped h t =
       let e = eq-eqb (bitOf f b) 1 h in
       (simp (e, ← t) (sym (update-none i ss)), simp (e, ← t))
 
   -- a field that applies: t is the table's code, v the value's bits, and z those of the scaled value
-  pub field-applied : (t v z : ℕ) (next : List Slot) → bitOf f b ≡ 1 → touchBy t ≡ touches d b → (t ≡ 0 → ⊥) → t < 5 → v < 4294967296 →
-      val v ≡ fieldValue r f b → val z ≡ scaled (val v) s u → next ≡ update i (touched (touchBy t) (val z)) ss → OneField next (not (eqb v 0))
+  pub field-applied : (t v z : ℕ) (next : List Slot) → bitOf f b ≡ 1 → effectBy t ≡ effectOf d b → (t ≡ 0 → ⊥) → t < 5 → v < 4294967296 →
+      val v ≡ fieldValue r f b → val z ≡ scaled (val v) s u → next ≡ update i (withEffect (effectBy t) (val z)) ss → OneField next (not (eqb v 0))
   unfolding update
   field-applied t v z next h e ne l k p q g =
       let o = eq-eqb (bitOf f b) 1 h in
-      let y : applies (touches d b) ≡ true = ap applies (sym e) ∙ applies-by t ne l in (
+      let y : applies (effectOf d b) ≡ true = ap applies (sym e) ∙ applies-by t ne l in (
         simp (o, ← e, ← p, ← q) g,
         simp (o, y) (ap not (zero-bits v k ∙ ap (λ (x : ℤ). eqb (natAbs x) 0) p)),
       )

@@ -1,8 +1,9 @@
--- The ValueFormat and the ValueRecord (OpenType, GPOS): a record has the fields whose bit is set in the format, two bytes each, in the order of the bits:
--- 0x0001 xPlacement, 0x0002 yPlacement, 0x0004 xAdvance, 0x0008 yAdvance, 0x0010 to 0x0080 the four device offsets. Assumes nothing.
+-- The ValueFormat and the ValueRecord (OpenType, GPOS): a record has the fields whose bit is set in the format, two
+-- bytes each, in the order of the bits: 0x0001 xPlacement, 0x0002 yPlacement, 0x0004 xAdvance, 0x0008 yAdvance, 0x0010
+-- to 0x0080 the four device offsets. Assumes nothing.
 use mathlib.Core.Bool.{Bool}
 use mathlib.Core.List.{List, []}
-use Prim.Native.Nat.{ℕ, zero, suc, _+_, _*_, _/_, _%_, _^_, _≤_, _<_}
+use Prim.Native.Nat.{ℕ, zero, suc, _+_, _*_, _/_, _%_, _^_}
 use lib.Dec.{eqb, leb}
 use lib.IntN.{ℤ}
 use lib.ListN.{drop, length, take}
@@ -22,7 +23,8 @@ unfoldable pub setBelow : ℕ → ℕ → ℕ
 setBelow f zero = 0
 setBelow f (suc b) = setBelow f b + bitOf f b
 
--- a record's length in bytes is twice the number of set bits, and the place of field b twice the number of set bits below it
+-- a record's length in bytes is twice the number of set bits, and the place of field b twice the number of set bits
+-- below it
 abbrev pub recordLength : ℕ → ℕ
 recordLength f = 2 * setBelow f 8
 
@@ -36,7 +38,3 @@ fieldValue r f b = intAt 2 r (fieldPlace f b)
 -- the bytes of the record at a place of a table: nothing where it is not wholly inside
 abbrev pub recordAt : List ℕ → ℕ → ℕ → List ℕ
 recordAt t at f = if leb (at + recordLength f) (length t) then take (recordLength f) (drop at t) else []
-
--- a record that is found like that is whole, or empty
-abbrev pub WholeOrEmpty : List ℕ → ℕ → Type 0
-WholeOrEmpty r f = 0 < length r → recordLength f ≤ length r

@@ -10,11 +10,12 @@ use Rattle.ints.specs.Scale.{scaled}
 use Rattle.slots.specs.Slot.{Slot}
 use Rattle.slots.specs.declared.axis.Direction.{Direction}
 use Rattle.values.specs.Format.{fieldValue, has, recordLength}
-use Rattle.values.specs.Touch.{applies, touched, touches}
+use Rattle.values.specs.FieldEffect.{applies, withEffect, effectOf}
 
--- field b of the record r, of the format f, applied to a slot in the direction d at the scale s / u: nothing where the record lacks it
+-- field b of the record r, of the format f, applied to a slot in the direction d at the scale s / u: nothing where the
+-- record lacks it
 abbrev pub withField : ℕ → ℕ → Direction → List ℕ → ℕ → ℕ → Slot → Slot
-withField s u d r f b slot = if has f b then touched (touches d b) (scaled (fieldValue r f b) s u) slot else slot
+withField s u d r f b slot = if has f b then withEffect (effectOf d b) (scaled (fieldValue r f b) s u) slot else slot
 
 -- the first n fields, in bit order
 unfoldable pub withFields : ℕ → ℕ → Direction → List ℕ → ℕ → ℕ → Slot → Slot
@@ -23,7 +24,7 @@ withFields s u d r f (suc n) slot = withField s u d r f n (withFields s u d r f 
 
 -- field b is there, applies, and is not zero, before scaling
 abbrev pub fieldWorks : Direction → List ℕ → ℕ → ℕ → Bool
-fieldWorks d r f b = has f b && (applies (touches d b) && not (eqb (natAbs (fieldValue r f b)) 0))
+fieldWorks d r f b = has f b && (applies (effectOf d b) && not (eqb (natAbs (fieldValue r f b)) 0))
 
 -- one of the first n fields works
 unfoldable pub fieldsWork : Direction → List ℕ → ℕ → ℕ → Bool

@@ -2,7 +2,9 @@
 ghost use mathlib.Core.Path.{_≡_};
 ghost use Prim.Native.Nat.{_+_, _*_, _/_, _^_, _≤_, _<_};
 ghost use lib.Count.{trailingZeros};
-ghost use Rattle.values.specs.Format.{bitOf, fieldPlace, recordAt, recordLength, WholeOrEmpty};
+ghost use Rattle.ints.specs.Limits.{whole32};
+ghost use Rattle.values.specs.Format.{bitOf, fieldPlace, recordAt, recordLength};
+ghost use Rattle.values.specs.code.Format.{WholeOrEmpty};
 
 // Two bytes for each set bit of the format.
 pub fn record_len(format: u32) -> usize
@@ -30,7 +32,7 @@ pub fn next_field(format: u32, field: u32) -> u32
 
 // The bytes of the record of a format at a place of a table, as a part of it: empty where it is not wholly inside.
 pub fn record_at<'a>(t: &'a [u8], at: usize, format: u32) -> &'a [u8]
-    requires { ⌜ (format < 256) × (at < 4294967296) ⌝ }
+    requires { ⌜ (format < 256) × (at < whole32) ⌝ }
     ensures { λ r. ⌜ (now r ≡ recordAt (now (t .entry)) at format) × WholeOrEmpty (now r) format ⌝ }
 {
     let end = at + record_len(format);

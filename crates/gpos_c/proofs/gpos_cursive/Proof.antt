@@ -10,8 +10,8 @@ neighbour-of-requires c κs = search needs
 cursive-requires : tie.Need-cursive-requires
 cursive-requires c κs = search needs
 
-flat-of-requires : tie.Need-flat-of-requires
-flat-of-requires c κs = search needs
+to-c-requires : tie.Need-to-c-requires
+to-c-requires c κs = search needs
 
 same-length : tie.Need-same-length
 same-length c = search needs
@@ -20,7 +20,7 @@ returns : tie.Need-returns
 returns c =
     let call = c .before .before .before .cursive in
     let named = c .before .before .before .before .neighbour-of .ensures in
-    record { answer = call .result; may = rw (sym named) (call .ensures); numbers = c .flat-of .ensures }
+    record { answer = call .result; may = rw (sym named) (call .ensures); numbers = c .to-c .ensures }
 
 pub gpos-cursive-spec : {M : Type 1} → statement M
-gpos-cursive-spec = tie.close (tie.spec neighbour-of-requires cursive-requires flat-of-requires same-length returns)
+gpos-cursive-spec = tie.close (tie.spec neighbour-of-requires cursive-requires to-c-requires same-length returns)

@@ -4,7 +4,8 @@ use mathlib.Core.List.{List}
 use Prim.Native.Nat.{ℕ, _-_, _%_, _≤_}
 use native.Mathlib.Omega.{arith}
 use lib.ListN.{length}
-use Rattle.ints.specs.Signed.{val, withInt}
+use Rattle.ints.specs.code.Signed.{val}
+use Rattle.ints.specs.Signed.{withInt}
 use Rattle.slots.specs.Slot.{slotOf, slotSize}
 use Rattle.moves.proofs.MoveLaws.{copied, copied-slot, copy-more}
 use Rattle.moves.proofs.copy_slot.Statement.{statement}

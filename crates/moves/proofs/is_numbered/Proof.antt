@@ -5,7 +5,7 @@ use native.Mathlib.Omega.{arith}
 use borrow.Author.Needs.{needs}
 use lib.ListN.{drop}
 use Rattle.slots.specs.Slot.{clusteredSize}
-use Rattle.slots.specs.Clusters.{isNumberedFrom}
+use Rattle.slots.specs.Numbered.{isNumberedFrom}
 use Rattle.slots.specs.Line.{shapeWith, slots}
 use Rattle.moves.proofs.MoveLaws.{numbered-all, numbered-here, unnumbered-here}
 use Rattle.moves.proofs.is_numbered.Statement.{statement}

@@ -6,7 +6,7 @@ use borrow.Author.Needs.{needs}
 use borrow.Rule.Slice.PartMut.{same-len-mid}
 use lib.ListN.{length, take}
 use Rattle.slots.specs.Slot.{clusteredSize, slotSize}
-use Rattle.slots.specs.Clusters.{numberedFrom}
+use Rattle.slots.specs.Numbered.{numberedFrom}
 use Rattle.slots.specs.Fields.{withCluster}
 use Rattle.slots.specs.Line.{shapeWith, slots}
 use Rattle.slots.proofs.LineLaws.{length-slots, lentLength}

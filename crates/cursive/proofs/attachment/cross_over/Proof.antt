@@ -1,6 +1,6 @@
 -- `cursive::attachment::cross_over` meets its contract: one `return` for each case of the flag. Assumes nothing.
 use denote.Ref.{now}
-use Rattle.ints.specs.Signed.{val}
+use Rattle.ints.specs.code.Signed.{val}
 use Rattle.slots.specs.Line.{slots}
 use Rattle.cursive.proofs.AttachmentLaws.{crossed-clear, crossed-set}
 use borrow.Author.Needs.{needs}

@@ -1,6 +1,6 @@
 -- `cursive::attachment::end_at` meets its contract: the sum of anchor and offset becomes the advance. Assumes nothing.
 use denote.Ref.{now}
-use Rattle.ints.specs.Signed.{val}
+use Rattle.ints.specs.code.Signed.{val}
 use Rattle.slots.specs.Line.{slots}
 use Rattle.cursive.proofs.AttachmentLaws.{ended-is}
 use borrow.Author.Needs.{needs}

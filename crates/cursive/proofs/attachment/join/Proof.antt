@@ -1,7 +1,7 @@
 -- `cursive::attachment::join` meets its contract: along the line, then across it, with each number scaled by itself. Assumes nothing.
 use denote.Ref.{now}
 use Rattle.slots.specs.Line.{slots}
-use Rattle.tables.specs.Anchor.{spotOf}
+use Rattle.tables.specs.code.Meant.{pointOf}
 use Rattle.cursive.proofs.AttachmentLaws.{joined-is}
 use borrow.Author.Needs.{needs}
 use Rattle.cursive.proofs.attachment.join.Statement.{statement}
@@ -44,7 +44,7 @@ returns c =
     let p = j .before .before .before .before .before in
     let x = p .before .before .before in
     let a = x .before .before .before .args in
-    joined-is (a .s) (a .u) (a .d) (a .flag) (a .i) (a .idx) (spotOf (a .exit)) (spotOf (a .entry)) (slots (a .shape) (now (a .line))) (x .before .main-axis .ensures)
+    joined-is (a .s) (a .u) (a .d) (a .flag) (a .i) (a .idx) (pointOf (a .exit)) (pointOf (a .entry)) (slots (a .shape) (now (a .line))) (x .before .main-axis .ensures)
     (x .cross-axis .ensures) (p .before .scaled-at .ensures) (p .join-previous .ensures) (j .before .scaled-at2 .ensures) (j .join-this .ensures)
     (k .before .before .scaled-at3 .ensures) (k .before .scaled-at4 .ensures) (k .cross-over .ensures)
 

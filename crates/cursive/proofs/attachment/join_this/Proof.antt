@@ -1,7 +1,7 @@
 -- `cursive::attachment::join_this` meets its contract: one arm for each direction. Assumes nothing.
 use mathlib.Core.List.{List}
 use denote.Ref.{now}
-use Rattle.ints.specs.Signed.{val}
+use Rattle.ints.specs.code.Signed.{val}
 use Rattle.slots.specs.Slot.{Slot}
 use Rattle.slots.specs.Line.{slots, update}
 use Rattle.slots.specs.declared.axis.Direction.{Direction}

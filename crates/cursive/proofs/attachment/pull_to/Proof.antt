@@ -1,7 +1,7 @@
 -- `cursive::attachment::pull_to` meets its contract: advance and offset are changed one after the other, by the sum of anchor and offset. Assumes nothing.
 use denote.Ref.{now}
 use native.Mathlib.Omega.{arith}
-use Rattle.ints.specs.Signed.{val}
+use Rattle.ints.specs.code.Signed.{val}
 use Rattle.slots.specs.Line.{slots}
 use Rattle.slots.proofs.LineLaws.{length-slots}
 use Rattle.cursive.proofs.AttachmentLaws.{pulled-is}

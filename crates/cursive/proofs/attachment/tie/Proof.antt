@@ -1,9 +1,7 @@
--- `cursive::attachment::tie` meets its contract: reversed, hung, separated, and the child's chain is the one that was just written. Assumes nothing.
-use native.Mathlib.Omega.{arith}
+-- `cursive::attachment::tie` meets its contract: reversed, hung, separated. Assumes nothing.
 use denote.Ref.{now}
-use Rattle.ints.specs.Signed.{val}
+use Rattle.ints.specs.code.Signed.{val}
 use Rattle.slots.specs.Line.{slots}
-use Rattle.slots.proofs.LineLaws.{length-slots}
 use Rattle.cursive.proofs.AttachmentLaws.{tied-is}
 use borrow.Author.Needs.{needs}
 use Rattle.cursive.proofs.attachment.tie.Statement.{statement}
@@ -15,8 +13,8 @@ reverse-requires c κs = search needs
 chain-to-requires : tie.Need-chain-to-requires
 chain-to-requires c κs = search needs
 
-hang-requires : tie.Need-hang-requires
-hang-requires c κs = search needs
+attach-slot-requires : tie.Need-attach-slot-requires
+attach-slot-requires c κs = search needs
 
 separate-requires : tie.Need-separate-requires
 separate-requires c κs = search needs
@@ -29,10 +27,9 @@ returns c =
     let h = c .before .before .before .before .before .before in
     let n = h .before .before in
     let r = n .before .before .before in
-    let s = r .before .before .before in
-    let a = s .args in
-    tied-is (a .a) (a .child) (a .parent) (val (a .z)) (slots (a .shape) (now (a .line))) (omega (arith, length-slots (a .shape) (now (a .line)), s .pre .0))
-    (r .reverse .ensures) (n .chain-to .ensures .0) (h .hang .ensures) (c .before .before .separate .ensures)
+    let a = r .before .before .before .args in
+    tied-is (a .a) (a .child) (a .parent) (val (a .z)) (slots (a .shape) (now (a .line)))
+    (r .reverse .ensures) (n .chain-to .ensures .0) (h .attach-slot .ensures) (c .before .before .separate .ensures)
 
 pub tie-spec : {M : Type 1} → statement M
 tie-spec =
@@ -40,7 +37,7 @@ tie-spec =
     (tie.spec
     reverse-requires
     chain-to-requires
-    hang-requires
+    attach-slot-requires
     separate-requires
     same-length
     returns)

@@ -13,7 +13,7 @@ use Rattle.slots.specs.Slot.{Slot}
 use Rattle.slots.specs.Line.{shapeWith, slot, slots}
 use Rattle.slots.specs.Fields.{cursiveBit}
 use Rattle.slots.specs.Parent.{parent}
-use Rattle.slots.specs.declared.parent.Parent.the-variants.{At}
+use Rattle.slots.specs.declared.parent.Parent.the-variants.{InLine}
 use Rattle.slots.proofs.LineLaws.{length-slots}
 use Rattle.slots.proofs.ParentLaws.{parent-in-line}
 use Rattle.cursive.specs.Chains.{attachedCount}
@@ -25,7 +25,7 @@ use Rattle.cursive.proofs.reversal.reverse.Reads as reverse
 use Rattle.cursive.proofs.reversal.reverse.Kinds as reverse-kinds
 use Rattle.cursive.proofs.reversal.+reverse.Lts-reverse as reverse-lts
 use Rattle.cursive.proofs.chains.chain_back.Reads as chain-back-reads
-use Rattle.cursive.proofs.chains.hang.Reads as hang-reads
+use Rattle.cursive.proofs.chains.attach_slot.Reads as hang-reads
 use Rattle.ints.proofs.saturating.sat_neg.Reads as sat-neg-reads
 use Rattle.slots.proofs.fields.chain.Reads as chain-reads
 use Rattle.slots.proofs.fields.cursive_bit.Reads as cursive-bit-reads
@@ -95,7 +95,7 @@ here : (t : ℕ) (k : Known t) → start t k .args .i < length (first t k)
 here t k = omega (arith, length-slots (shapeWith (start t k .args .size) (start t k .args .n)) (now (start t k .args .line)), start t k .pre .1)
 
 -- the parent that was found
-parent-is : (t : ℕ) (k : Known t) → parent (first t k) (start t k .args .i) ≡ At (to t k)
+parent-is : (t : ℕ) (k : Known t) → parent (first t k) (start t k .args .i) ≡ InLine (to t k)
 parent-is t k = sym (k .before .before .before .parent-of .ensures) ∙ k .before .parent .given .1
 
 -- and so is its parent
@@ -177,7 +177,7 @@ reverse-sat-neg-requires t c κs = search needs
 reverse-chain-back-requires : (t : ℕ) → reverse-lts.Need-chain-back-requires (calls t) (reverse-at t) reverse.Post
 reverse-chain-back-requires t c κs = search needs
 
-reverse-hang-requires : (t : ℕ) → reverse-lts.Need-hang-requires (calls t) (reverse-at t) reverse.Post
+reverse-hang-requires : (t : ℕ) → reverse-lts.Need-attach-slot-requires (calls t) (reverse-at t) reverse.Post
 reverse-hang-requires t c κs =
     let k = c .before .before .before .before .before .before .before .before .before .before .before .before .before .before .before .before in
     let in-line = there t k in
@@ -219,8 +219,8 @@ reverse-returns-5 t c =
     let a = start t k .args in
     let shape = shapeWith (a .size) (a .n) in
     goes-on (a .a) (first t k) (a .i) (a .p) (kind-is t k) (here t k) (bit-is t k) (w .set-chain2 .ensures) (to t k) (parent-is t k) (r .before .before .if2 .left)
-    {ss₂ = slots shape (r .reverse .last .0)} {ss₃ = slots shape (h .hang .last .0)}
-    (w .before .before .chain .ensures .0) (r .reverse .ensures) (n .before .get .ensures) (n .sat-neg .ensures) (h .before .before .chain-back .ensures .0) (h .hang .ensures)
+    {ss₂ = slots shape (r .reverse .last .0)} {ss₃ = slots shape (h .attach-slot .last .0)}
+    (w .before .before .chain .ensures .0) (r .reverse .ensures) (n .before .get .ensures) (n .sat-neg .ensures) (h .before .before .chain-back .ensures .0) (h .attach-slot .ensures)
 
 pub +reverse-spec : {M : Type 1} → statement M
 +reverse-spec = close μ-reverse λ t. reverse-lts.spec (calls t) (reverse-at t) reverse.Post

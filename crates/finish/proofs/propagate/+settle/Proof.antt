@@ -11,7 +11,7 @@ use borrow.Fn.PlainCycle.{Measures, is, falls, and}
 use Rattle.finish.proofs.propagate.settle.Reads as settle
 use Rattle.finish.proofs.propagate.settle.Kinds as settle-kinds
 use Rattle.finish.proofs.propagate.+settle.Lts-settle as settle-lts
-use Rattle.finish.proofs.join.join.Reads as join-reads
+use Rattle.finish.proofs.take_in.take_in.Reads as join-reads
 use Rattle.slots.proofs.fields.set_chain.Reads as set-chain-reads
 use Rattle.slots.proofs.parent.parent_of.Reads as parent-of-reads
 use Rattle.finish.proofs.propagate.+settle.{statement}
@@ -90,7 +90,7 @@ settle-settle-requires t c κs =
     let in-line = inside t arm in
     (omega (arith, arm .before .before .before .before .before .pre .0), omega arith)
 
-settle-join-requires : (t : ℕ) → settle-lts.Need-join-requires (calls t) (settle-at t) settle.Post
+settle-join-requires : (t : ℕ) → settle-lts.Need-take-in-requires (calls t) (settle-at t) settle.Post
 settle-join-requires t c κs =
     let in-line = inside t (c .before .before .before .before .before .before .before .before .before .before .before) in
     (search needs, omega arith)
@@ -128,7 +128,7 @@ settle-returns-4 t c =
     let found = arm .before .before in
     let a = found .before .before .before .args in
     settles-at (a .d) (a .limit) (slots (shapeWith (a .size) (a .n)) (a .line .now)) (a .i) (found .parent-of .ensures)
-    (cleared .set-chain2 .ensures) (arm .p .given .1) (tested .if1 .left) (called .settle .ensures) (c .before .before .join .ensures)
+    (cleared .set-chain2 .ensures) (arm .p .given .1) (tested .if1 .left) (called .settle .ensures) (c .before .before .take-in .ensures)
 
 pub +settle-spec : {M : Type 1} → statement M
 +settle-spec = close μ-settle λ t. settle-lts.spec (calls t)

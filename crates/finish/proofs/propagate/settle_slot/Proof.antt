@@ -81,8 +81,8 @@ settle-requires c κs =
     let in-line = inside (c .before .before .before .before .before .before .before .before .before .before) in
     omega arith
 
-join-requires : tie.Need-join-requires
-join-requires c κs =
+take-in-requires : tie.Need-take-in-requires
+take-in-requires c κs =
     let in-line = inside (c .before .before .before .before .before .before .before .before .before .before) in
     let same = met (c .before) .0 in
     (search needs, omega arith)
@@ -122,7 +122,7 @@ returns-4 c =
     let found = arm .before .before in
     let a = found .before .before .before .args in
     settles-at (a .d) (a .limit) (slots (a .shape) (a .line .now)) (a .i) (found .parent-of .ensures)
-    (cleared .set-chain2 .ensures) (arm .p .given .1) (tested .if1 .left) (met meet .1) (c .before .before .join .ensures)
+    (cleared .set-chain2 .ensures) (arm .p .given .1) (tested .if1 .left) (met meet .1) (c .before .before .take-in .ensures)
 
 pub settle-slot-spec : {M : Type 1} → statement M
 settle-slot-spec =
@@ -139,7 +139,7 @@ settle-slot-spec =
     is-attached-requires
     sub-settle
     settle-requires
-    join-requires
+    take-in-requires
     same-length-2
     returns-2
     same-length-3

@@ -1,17 +1,11 @@
--- A refusal is that of the first test that holds; else the core's effect decides the line. Assumes nothing.
-use mathlib.Core.Path.{_≡_, sym, ap, _∙_}
-use mathlib.Core.Bool.{not}
-use Prim.Native.Nat.{ℕ}
-use borrow.Author.Tests.{not-false}
-use Rattle.pair.specs.Adjustment.{planned, planSaid}
+-- The call's parts; all else is the applying calls' laws. Assumes nothing.
+use mathlib.Core.Path.{sym, _∙_}
+use Rattle.pair.specs.Adjustment.{pairAdjustment}
 use Rattle.pair.specs.PairPos.{pairGood}
-use Rattle.pair.specs.Plan.{planOf}
-use Rattle.gpos.specs.Neighbours.{badAfter, badSecond}
-use Rattle.gpos.proofs.NeighbourLaws.{after, index-in}
-use Rattle.slots.proofs.ShapeLaws.{not-whole, Whole, whole, whole-inside}
-use Rattle.answers.specs.Said.{done, Said, said, saidDone, unless}
-use Rattle.answers.proofs.OutcomeLaws.{made-nothing}
-use Rattle.gpos.proofs.ApplyingLaws.{by-core, callOf, checked, Parts, passed, refused-by, refused-subtable, tests}
+use Rattle.slots.specs.declared.shape.Shape.{Shape}
+use Rattle.answers.specs.Said.{said}
+use Rattle.gpos.specs.declared.neighbours.Beside.the-variants.{Second}
+use Rattle.gpos.proofs.ApplyingLaws.{by-core, Cleared, cleared, Parts, passed, refused-by, refused-index, refused-subtable}
 use borrow.Author.Needs.{needs}
 use Rattle.gpos.proofs.pair_pos.pair.Statement.{statement}
 use Rattle.gpos.proofs.pair_pos.pair.Tie as tie
@@ -25,134 +19,101 @@ parts c =
       direction = a .direction;
       s = a .s;
       u = a .u;
-      bad-index = λ n. badSecond n (a .index) (a .second);
-      bad-subtable = not (pairGood t);
-      says = λ d ss. planSaid d t (a .index) (planOf t ss (a .index) (a .second));
-      leaves = λ d ss. planned (a .s) (a .u) d t (a .index) (planOf t ss (a .index) (a .second)) ss;
+      index = a .index;
+      beside = Second (a .second);
+      good = pairGood t;
+      core = λ d. pairAdjustment t d (a .s) (a .u) (a .index) (a .second);
     }
 
--- the line, once it is cut
-abbrev at-start : tie.After-cut → tie.Start
-at-start k = k .before .before .before .before .before .before
+-- none of refusals 1 to 4: the line has this shape
+abbrev at-start : tie.After-known-told2 → tie.Start
+at-start k = k .before .before .before .before .before .before .before
 
-abbrev many : tie.After-cut → ℕ
-many k = k .cut .given .0 .0
+abbrev shape : tie.After-known-told2 → Shape
+shape k = k .before .checked2 .given .0 .0
 
-whole-line : (k : tie.After-cut) → Whole (at-start k .args .size) (at-start k .args .line .now) (many k)
-whole-line k = let a = at-start k .args in whole (a .size) (a .line .now) (many k) (sym (k .cut .given .1) ∙ k .before .before .cut-of .ensures)
+ok : (k : tie.After-known-told2) → let s = at-start k in Cleared (parts s) (s .args .size) (s .args .line .now) (shape k)
+ok k = let s = at-start k in cleared (parts s) (s .args .size) (s .args .line .now) (shape k) (k .before .checked2 .given .1) (k .before .before .before .check-call .ensures)
 
--- what its checks said
-abbrev cut-at : tie.After-check-call → tie.After-cut
-cut-at k = k .before .before .before .before
+check-call-requires : tie.Need-check-call-requires
+check-call-requires c κs = search needs
 
-abbrev said-tests : tie.After-check-call → Said
-said-tests k = let j = cut-at k in let s = at-start j in unless (tests (parts s) (s .args .size) (s .args .line .now) (whole-line j)) done
-
-tested : (k : tie.After-check-call) → saidDone (k .check-call .result) ≡ said-tests k
-tested k = let j = cut-at k in let s = at-start j in checked (parts s) (s .args .size) (s .args .line .now) (whole-line j) (k .check-call .ensures) (k .before .before .is-bad-second .ensures)
-
--- none of them refuses
-ok : (c : tie.After-enum-told2) → said-tests (c .before .before) ≡ done
-ok c = sym (tested (c .before .before)) ∙ ap saidDone (c .enum-told2 .given .1)
-
-cut-of-requires : tie.Need-cut-of-requires
-cut-of-requires c κs = search needs
-
-enum-known-cut : tie.Need-enum-known-cut
-enum-known-cut c = search needs
-
-enum-told : tie.Need-enum-told
-enum-told c = search needs
+enum-known-checked : tie.Need-enum-known-checked
+enum-known-checked c = search needs
 
 same-length : tie.Need-same-length
 same-length c = search needs
 
 returns : tie.Need-returns
 returns c =
-    let s = c .before .before .before .before .before .before in
-    let a = s .args in
-    made-nothing (callOf (parts s)) (a .size) (a .line .now) (not-whole (a .size) (a .line .now) (sym (c .enum-told .given .1) ∙ c .before .before .cut-of .ensures))
+    let s = c .before .before .before .before .before .before .before in
+    refused-by (parts s) (s .args .size) (s .args .line .now) _ (c .before .checked .given .1) (c .before .before .before .check-call .ensures)
 
-is-bad-second-requires : tie.Need-is-bad-second-requires
-is-bad-second-requires c κs = search needs
+enum-known-checked-2 : tie.Need-enum-known-checked-2
+enum-known-checked-2 c = search needs
 
-check-call-requires : tie.Need-check-call-requires
-check-call-requires c κs = let w = whole-line (c .before .before .before) in (w .fits, w .size-known)
-
-enum-known-checked : tie.Need-enum-known-checked
-enum-known-checked c = search needs
-
-enum-told-2 : tie.Need-enum-told-2
-enum-told-2 c = search needs
-
-is-good-requires : tie.Need-is-good-requires
-is-good-requires c κs = search needs
+is-misplaced-requires : tie.Need-is-misplaced-requires
+is-misplaced-requires c κs = search needs
 
 same-length-2 : tie.Need-same-length-2
 same-length-2 c = search needs
 
 returns-2 : tie.Need-returns-2
 returns-2 c =
-    let told = c .before .before in
-    let j = cut-at (told .before .before) in
-    let s = at-start j in
-    refused-subtable (parts s) (s .args .size) (s .args .line .now) (whole-line j) (ok told) (ap not (sym (c .before .is-good .ensures)) ∙ c .if1 .taken)
+    let k = c .before .before in
+    let s = at-start k in
+    refused-index (parts s) (s .args .size) (s .args .line .now) (ok k) (c .before .is-misplaced .ensures) (c .if1 .taken)
+
+is-good-requires : tie.Need-is-good-requires
+is-good-requires c κs = search needs
 
 direction-of-requires : tie.Need-direction-of-requires
 direction-of-requires c κs = search needs
 
-adjust-pair-requires : tie.Need-adjust-pair-requires
-adjust-pair-requires c κs =
-    let told = c .before .before .before .before in
-    let j = cut-at (told .before .before) in
-    let a = at-start j .args in
-    let w = whole-line j in
-    let p = passed (parts (at-start j)) (a .size) (a .line .now) w (ok told) in
-    let subtable = sym (c .before .before .before .is-good .ensures) ∙ not-false _ (c .before .before .if1 .left) in
-    let place = index-in (many j) (a .index) (badAfter (many j) (a .index) (a .second)) (p .place) in
-    (subtable, p .scale, whole-inside w (a .index) (place .0), after (many j) (a .index) (a .second) (place .1))
+apply-requires : tie.Need-apply-requires
+apply-requires c κs =
+    let k = c .before .before .before .before .before .before in
+    let s = at-start k in
+    let ok = passed (parts s) (s .args .size) (s .args .line .now) (ok k) (c .before .before .before .before .before .is-misplaced .ensures) (c .before .before .before .before .if1 .left) in
+    let good = sym (c .before .before .before .is-good .ensures) ∙ c .before .before .if2 .taken in
+    (good, ok .scale, ok .inside, ok .near)
 
 same-length-3 : tie.Need-same-length-3
 same-length-3 c = search needs
 
 returns-3 : tie.Need-returns-3
 returns-3 c =
-    let k = c .before .before .before in
-    let j = cut-at k in
-    let s = at-start j in
-    refused-by (parts s) (s .args .size) (s .args .line .now) (whole-line j) _ (sym (tested k) ∙ ap saidDone (c .before .checked .given .1))
+    let k = c .before .before .before .before .before .before .before .before .before in
+    let s = at-start k in
+    let core = c .before .before .apply in
+    by-core (parts s) (s .args .size) (s .args .line .now) (ok k) (c .before .before .before .before .before .before .before .before .is-misplaced .ensures) (c .before .before .before .before .before .before .before .if1 .left)
+    (core .last .0) (said (core .result)) (c .before .before .before .before .before .before .is-good .ensures) (c .before .before .before .before .before .if2 .taken)
+    (c .before .before .before .direction-of .ensures) (λ n. k .before .before .before .before .before .before .slice-known .given n .fits) (λ n. c .slice-known2 .given n .fits) (core .kept .0) (core .ensures)
 
 same-length-4 : tie.Need-same-length-4
 same-length-4 c = search needs
 
 returns-4 : tie.Need-returns-4
 returns-4 c =
-    let core = c .before .before .adjust-pair in
-    let told = c .before .before .before .before .before .before .before in
-    let j = cut-at (told .before .before) in
-    let s = at-start j in
-    by-core (parts s) (s .args .size) (s .args .line .now) (whole-line j) (ok told) (core .last .0) (said (core .result))
-    (ap not (sym (c .before .before .before .before .before .before .is-good .ensures)) ∙ c .before .before .before .before .before .if1 .left) (c .before .before .before .direction-of .ensures)
-    (λ n. c .before .before .before .before .before .before .before .before .before .before .before .before .before .before .before .before .before .before .slice-known .given n .fits) (λ n. c .slice-known2 .given n .fits) (core .kept .0) (core .ensures)
+    let k = c .before .before .before .before in
+    let s = at-start k in
+    refused-subtable (parts s) (s .args .size) (s .args .line .now) (ok k) (c .before .before .before .is-misplaced .ensures) (c .before .before .if1 .left) (c .before .is-good .ensures) (c .if2 .left)
 
 pub pair-spec : {M : Type 1} → statement M
 pair-spec =
     tie.close
     (tie.spec
-    cut-of-requires
-    enum-known-cut
-    enum-told
-    same-length
-    returns
-    is-bad-second-requires
     check-call-requires
     enum-known-checked
-    enum-told-2
-    is-good-requires
+    same-length
+    returns
+    enum-known-checked-2
+    is-misplaced-requires
     same-length-2
     returns-2
+    is-good-requires
     direction-of-requires
-    adjust-pair-requires
+    apply-requires
     same-length-3
     returns-3
     same-length-4

@@ -4,7 +4,8 @@ use Prim.Native.Nat.{ℕ, _+_, _%_, _≤_, _<_}
 use native.Mathlib.Decide.{decLt}
 use native.Mathlib.Omega.{arith}
 use lib.IntN.{natAbs}
-use Rattle.ints.specs.Signed.{intAt, signed, val}
+use Rattle.ints.specs.Signed.{intAt, signed}
+use Rattle.ints.specs.code.Signed.{val}
 use Rattle.ints.proofs.Ints.{diff}
 use Rattle.ints.proofs.SignedLaws.{signed-high, signed-low}
 use Rattle.ints.proofs.SizeLaws.{abs-diff}

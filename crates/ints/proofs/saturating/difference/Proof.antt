@@ -1,7 +1,7 @@
 -- Two numbers of 16 bits are too near to saturate. Assumes nothing.
 use mathlib.Core.Path.{_∙_}
 use native.Mathlib.Omega.{arith}
-use Rattle.ints.specs.Signed.{val}
+use Rattle.ints.specs.code.Signed.{val}
 use Rattle.ints.proofs.SaturatingLaws.{less-exact}
 use Rattle.ints.proofs.SizeLaws.{abs-sub}
 use borrow.Author.Needs.{needs}

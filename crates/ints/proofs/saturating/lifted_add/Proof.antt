@@ -2,7 +2,8 @@
 use mathlib.Core.Path.{ap, _∙_}
 use Prim.Native.Nat.{ℕ, min}
 use native.Mathlib.Omega.{arith}
-use Rattle.ints.specs.Saturating.{plus, unlifted}
+use Rattle.ints.specs.Saturating.{satAdd}
+use Rattle.ints.specs.code.Saturating.{unlifted}
 use Rattle.ints.proofs.SaturatingLaws.{lifted-plus}
 use borrow.Author.Needs.{needs}
 use Rattle.ints.proofs.saturating.lifted_add.Statement.{statement}
@@ -25,7 +26,7 @@ returns c =
     let x = c .before .before .before .args .x in
     let lifted = c .before .before .lift in
     let is = c .capped .ensures ∙ ap (λ (n : ℕ). min n 4294967295) (c .before .floored .ensures) in
-    (ap unlifted is ∙ lifted-plus x (lifted .result) ∙ ap (plus (unlifted x)) (lifted .ensures .0), omega (arith, c .capped .ensures))
+    (ap unlifted is ∙ lifted-plus x (lifted .result) ∙ ap (satAdd (unlifted x)) (lifted .ensures .0), omega (arith, c .capped .ensures))
 
 pub lifted-add-spec : {M : Type 1} → statement M
 lifted-add-spec =

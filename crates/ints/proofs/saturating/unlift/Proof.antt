@@ -2,7 +2,7 @@
 use mathlib.Core.Path.{_≡_, sym, ap, _∙_}
 use Prim.Native.Nat.{_+_, _%_}
 use native.Mathlib.Omega.{arith}
-use Rattle.ints.specs.Saturating.{unlifted}
+use Rattle.ints.specs.code.Saturating.{unlifted}
 use Rattle.ints.proofs.SaturatingLaws.{lifted}
 use borrow.Author.Needs.{needs}
 use Rattle.ints.proofs.saturating.unlift.Statement.{statement}

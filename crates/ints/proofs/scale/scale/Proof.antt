@@ -4,7 +4,7 @@ use Prim.Native.Nat.{ℕ, _+_, _-_, _*_, _/_, _≤_}
 use native.Mathlib.Nat.{mul-le-mul-right}
 use native.Mathlib.Omega.{arith}
 use Rattle.ints.specs.Scale.{scaled}
-use Rattle.ints.specs.Signed.{val}
+use Rattle.ints.specs.code.Signed.{val}
 use Rattle.ints.proofs.Ints.{diff, sub-pos}
 use Rattle.ints.proofs.SaturatingLaws.{near-lifted}
 use Rattle.ints.proofs.ScaleLaws.{quotient-near, scaled-diff}

@@ -2,9 +2,9 @@
 use mathlib.Core.Path.{sym, subst, _∙_}
 use native.Mathlib.Omega.{arith}
 use denote.Ref.{now}
-use Rattle.ints.specs.BigEndian.{Bytes}
+use Rattle.ints.specs.BigEndian.{AllBytes}
 use Rattle.slots.specs.Line.{slot, slots}
-use Rattle.tables.specs.MarkArray.{markSpot}
+use Rattle.tables.specs.code.Meant.{markAnchor}
 use Rattle.tables.proofs.AnchorRowsLaws.{rows-few}
 use Rattle.marks.proofs.MarkPosLaws.{anchors-cut, anchors-rowless, anchors-with, good, rows-bytes}
 use borrow.Author.Needs.{needs}
@@ -40,7 +40,7 @@ returns c =
     let a = q .before .before .before .args in
     let ss = slots (a .shape) (now (a .line)) in (
       c .no-rows .ensures .0
-          ∙ anchors-rowless (a .kind) (now (a .t)) (a .k) (a .m) (slot ss (a .idx)) (slot ss (a .b)) (now (q .row-table .result)) (q .row-table .ensures)
+          ∙ anchors-rowless (a .target) (now (a .t)) (a .k) (a .m) (slot ss (a .idx)) (slot ss (a .b)) (now (q .row-table .result)) (q .row-table .ensures)
           (r .before .read-u16 .result) (r .before .read-u16 .ensures .0) (r .rows-of .result) (r .rows-of .ensures) (n .n .given .0 .0) (n .n .given .1) (c .before .if1 .taken),
       c .no-rows .ensures .1,
     )
@@ -60,15 +60,15 @@ table-at-requires c κs = search needs
 mark-of-requires : tie.Need-mark-of-requires
 mark-of-requires c κs = search needs
 
-with-mark-requires : tie.Need-with-mark-requires
-with-mark-requires c κs =
+after-mark-requires : tie.Need-after-mark-requires
+after-mark-requires c κs =
     let n = c .before .before .before .before .before .before in
     let r = n .before .before in
     let q = r .before .before in
     let known = q .before .shared-slice-known2 .given in
     let a = q .before .before .before .args in
     let few = rows-few (now (q .row-table .result)) (r .before .read-u16 .result) (n .n .given .0 .0)
-    (subst Bytes (sym (q .row-table .ensures)) (rows-bytes (a .kind) (now (a .t)) (a .k) (λ k. known k .fits)))
+    (subst AllBytes (sym (q .row-table .ensures)) (rows-bytes (a .target) (now (a .t)) (a .k) (λ k. known k .fits)))
     (sym (r .rows-of .ensures) ∙ n .n .given .1) in
     (few, search needs, c .mark-of .ensures .1)
 
@@ -78,7 +78,7 @@ returns-2 c =
     let q = r .before .before in
     let a = q .before .before .before .args in
     let ss = slots (a .shape) (now (a .line)) in (
-      anchors-cut (a .kind) (now (a .t)) (a .k) (a .m) (slot ss (a .idx)) (slot ss (a .b)) (now (q .row-table .result)) (q .row-table .ensures)
+      anchors-cut (a .target) (now (a .t)) (a .k) (a .m) (slot ss (a .idx)) (slot ss (a .b)) (now (q .row-table .result)) (q .row-table .ensures)
           (r .before .read-u16 .result) (r .before .read-u16 .ensures .0) (r .rows-of .result) (r .rows-of .ensures) (c .enum-told .given .1),
       tt,
     )
@@ -91,12 +91,12 @@ returns-3 c =
     let q = r .before .before in
     let a = q .before .before .before .args in
     let ss = slots (a .shape) (now (a .line)) in (
-      c .with-mark .ensures .0
-          ∙ anchors-with (a .kind) (now (a .t)) (a .k) (a .m) (slot ss (a .idx)) (slot ss (a .b)) (now (q .row-table .result)) (q .row-table .ensures)
+      c .after-mark .ensures .0
+          ∙ anchors-with (a .target) (now (a .t)) (a .k) (a .m) (slot ss (a .idx)) (slot ss (a .b)) (now (q .row-table .result)) (q .row-table .ensures)
           (r .before .read-u16 .result) (r .before .read-u16 .ensures .0) (r .rows-of .result) (r .rows-of .ensures) (n .n .given .0 .0) (n .n .given .1) (f .before .if1 .left)
           (f .row-for .result) (f .row-for .ensures) (c .before .before .before .read-u162 .result) (c .before .before .before .read-u162 .ensures .0)
-          (now (c .before .before .table-at .result)) (c .before .before .table-at .ensures) (markSpot (c .before .mark-of .result)) (c .before .mark-of .ensures .0),
-      c .with-mark .ensures .1,
+          (now (c .before .before .table-at .result)) (c .before .before .table-at .ensures) (markAnchor (c .before .mark-of .result)) (c .before .mark-of .ensures .0),
+      c .after-mark .ensures .1,
     )
 
 pub find-anchors-spec : {M : Type 1} → statement M
@@ -116,6 +116,6 @@ find-anchors-spec =
     cast-table-at
     table-at-requires
     mark-of-requires
-    with-mark-requires
+    after-mark-requires
     returns-2
     returns-3)

@@ -1,9 +1,9 @@
--- `marks::anchors::row_for` meets its contract: the kind says which row it is. Assumes nothing.
+-- `marks::anchors::row_for` meets its contract: the target says which row it is. Assumes nothing.
 use mathlib.Core.Path.{sym, ap, _∙_}
 use denote.Ref.{now}
 use Rattle.slots.specs.Line.{slot, slots}
-use Rattle.marks.specs.MarkPos.{rowFor}
-use Rattle.marks.specs.declared.subtable.Kind.{Kind}
+use Rattle.marks.specs.Anchors.{rowFor}
+use Rattle.marks.specs.declared.mark_pos.Target.{Target}
 use borrow.Author.Needs.{needs}
 use Rattle.marks.proofs.anchors.row_for.Statement.{statement}
 use Rattle.marks.proofs.anchors.row_for.Tie as tie
@@ -24,7 +24,7 @@ returns-2 : tie.Need-returns-2
 returns-2 c =
     let a = c .before .before .before .before .args in
     let ss = slots (a .shape) (now (a .line)) in
-    c .component-index .ensures .0 ∙ sym (ap (λ (x : Kind). rowFor x (a .k) (a .n) (slot ss (a .idx)) (slot ss (a .b))) (c .before .enum-told2 .given .1))
+    c .component-index .ensures .0 ∙ sym (ap (λ (x : Target). rowFor x (a .k) (a .n) (slot ss (a .idx)) (slot ss (a .b))) (c .before .enum-told2 .given .1))
 
 pub row-for-spec : {M : Type 1} → statement M
 row-for-spec =

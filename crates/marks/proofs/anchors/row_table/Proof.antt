@@ -29,14 +29,14 @@ returns c =
     let e = c .before .before in
     let b = e .before .before in
     let a = b .before .before .before .args in
-    rows-cut (a .kind) (now (a .t)) (a .k) (now (b .table-at .result)) (b .before .read-u16 .result) (b .before .read-u16 .ensures .0) (b .table-at .ensures)
+    rows-cut (a .target) (now (a .t)) (a .k) (now (b .table-at .result)) (b .before .read-u16 .result) (b .before .read-u16 .ensures .0) (b .table-at .ensures)
     (e .enum-told2 .given .1) (c .before .if1 .taken)
 
 read-u16-requires-2 : tie.Need-read-u16-requires-2
 read-u16-requires-2 c κs = search needs
 
-cast-child-of : tie.Need-cast-child-of
-cast-child-of c = search needs
+cast-count : tie.Need-cast-count
+cast-count c = search needs
 
 child-of-requires : tie.Need-child-of-requires
 child-of-requires c κs = search needs
@@ -45,7 +45,7 @@ returns-2 : tie.Need-returns-2
 returns-2 c =
     let b = c .before .before in
     let a = b .before .before .before .args in
-    rows-base (a .kind) (now (a .t)) (a .k) (now (b .table-at .result)) (b .before .read-u16 .result) (b .before .read-u16 .ensures .0) (b .table-at .ensures)
+    rows-base (a .target) (now (a .t)) (a .k) (now (b .table-at .result)) (b .before .read-u16 .result) (b .before .read-u16 .ensures .0) (b .table-at .ensures)
     (c .enum-told .given .1)
 
 returns-3 : tie.Need-returns-3
@@ -53,7 +53,7 @@ returns-3 c =
     let e = c .before .before .before in
     let b = e .before .before in
     let a = b .before .before .before .args in
-    rows-ligature (a .kind) (now (a .t)) (a .k) (now (b .table-at .result)) (b .before .read-u16 .result) (b .before .read-u16 .ensures .0) (b .table-at .ensures)
+    rows-ligature (a .target) (now (a .t)) (a .k) (now (b .table-at .result)) (b .before .read-u16 .result) (b .before .read-u16 .ensures .0) (b .table-at .ensures)
     (e .enum-told2 .given .1) (c .before .read-u162 .result) (c .before .read-u162 .ensures .0) (now (c .child-of .result)) (c .child-of .ensures)
 
 pub row-table-spec : {M : Type 1} → statement M
@@ -68,7 +68,7 @@ row-table-spec =
     slice-aggregate-result
     returns
     read-u16-requires-2
-    cast-child-of
+    cast-count
     child-of-requires
     returns-2
     returns-3)

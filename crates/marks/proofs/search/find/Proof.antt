@@ -12,10 +12,10 @@ use Rattle.marks.proofs.search.find.Statement.{statement}
 use Rattle.marks.proofs.search.find.Tie as tie
 
 abbrev Inv-loop : tie.InvT-loop
-Inv-loop line shape t kind idx j₀ j = (j ≤ idx) × (foundFor kind t (slots shape line) idx ≡ nearest (stopsAt kind t (slots shape line)) j)
+Inv-loop line shape t target idx j₀ j = (j ≤ idx) × (foundFor target t (slots shape line) idx ≡ nearest (stopsAt target t (slots shape line)) j)
 
 abbrev μ-loop : tie.MeasureT-loop
-μ-loop line shape t kind idx j₀ j = j
+μ-loop line shape t target idx j₀ j = j
 
 loop-holds : tie.Need-loop-holds Inv-loop μ-loop
 loop-holds c = (omega arith, refl)
@@ -30,7 +30,7 @@ returns : tie.Need-returns Inv-loop μ-loop
 returns c =
     let s = c .before .before .before in
     let a = s .before .before .before .args in (
-      sym (s .loop .inv .1 ∙ nearest-turn (stopsAt (a .kind) (now (a .t)) (slots (a .shape) (now (a .line)))) (s .loop .j) (omega arith) true (sym (c .before .stops-at .ensures) ∙ c .if1 .taken)),
+      sym (s .loop .inv .1 ∙ nearest-turn (stopsAt (a .target) (now (a .t)) (slots (a .shape) (now (a .line)))) (s .loop .j) (omega arith) true (sym (c .before .stops-at .ensures) ∙ c .if1 .taken)),
       omega arith,
     )
 
@@ -42,14 +42,14 @@ loop-again c =
     let s = c .before .before .before in
     let a = s .before .before .before .args in (
       omega arith,
-      s .loop .inv .1 ∙ nearest-turn (stopsAt (a .kind) (now (a .t)) (slots (a .shape) (now (a .line)))) (s .loop .j) (omega arith) false (sym (c .before .stops-at .ensures) ∙ c .if1 .left),
+      s .loop .inv .1 ∙ nearest-turn (stopsAt (a .target) (now (a .t)) (slots (a .shape) (now (a .line)))) (s .loop .j) (omega arith) false (sym (c .before .stops-at .ensures) ∙ c .if1 .left),
     )
 
 returns-2 : tie.Need-returns-2 Inv-loop μ-loop
 returns-2 c =
     let s = c .before in
     let a = s .before .before .before .args in
-    (sym (s .loop .inv .1 ∙ nearest-none (stopsAt (a .kind) (now (a .t)) (slots (a .shape) (now (a .line)))) (s .loop .j) (omega arith)), tt)
+    (sym (s .loop .inv .1 ∙ nearest-none (stopsAt (a .target) (now (a .t)) (slots (a .shape) (now (a .line)))) (s .loop .j) (omega arith)), tt)
 
 pub find-spec : {M : Type 1} → statement M
 find-spec =

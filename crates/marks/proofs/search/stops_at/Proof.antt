@@ -14,7 +14,7 @@ returns : tie.Need-returns
 returns c =
     let b = c .before in
     let a = b .before .before .before .args in
-    stops-unseen (a .kind) (now (a .t)) (slots (a .shape) (now (a .line))) (a .i) (b .has-flag .result) (b .has-flag .ensures) (not-true _ (c .if1 .taken))
+    stops-unseen (a .target) (now (a .t)) (slots (a .shape) (now (a .line))) (a .i) (b .has-flag .result) (b .has-flag .ensures) (not-true _ (c .if1 .taken))
 
 is-accepted-requires : tie.Need-is-accepted-requires
 is-accepted-requires c κs = search needs
@@ -23,7 +23,7 @@ returns-2 : tie.Need-returns-2
 returns-2 c =
     let d = c .before .before in
     let a = d .before .before .before .before .args in
-    stops-accepted (a .kind) (now (a .t)) (slots (a .shape) (now (a .line))) (a .i) (d .before .has-flag .result) (d .before .has-flag .ensures) (not-false _ (d .if1 .left))
+    stops-accepted (a .target) (now (a .t)) (slots (a .shape) (now (a .line))) (a .i) (d .before .has-flag .result) (d .before .has-flag .ensures) (not-false _ (d .if1 .left))
     (c .before .is-accepted .result) (c .before .is-accepted .ensures) (c .if2 .taken)
 
 glyph-requires : tie.Need-glyph-requires
@@ -37,7 +37,7 @@ returns-3 c =
     let e = c .before .before in
     let d = e .before .before in
     let a = d .before .before .before .before .args in
-    stops-covered (a .kind) (now (a .t)) (slots (a .shape) (now (a .line))) (a .i) (d .before .has-flag .result) (d .before .has-flag .ensures) (not-false _ (d .if1 .left))
+    stops-covered (a .target) (now (a .t)) (slots (a .shape) (now (a .line))) (a .i) (d .before .has-flag .result) (d .before .has-flag .ensures) (not-false _ (d .if1 .left))
     (e .before .is-accepted .result) (e .before .is-accepted .ensures) (e .if2 .left)
     (c .before .glyph .result) (c .before .glyph .ensures .0) (c .is-base .result) (c .is-base .ensures)
 

@@ -3,31 +3,31 @@ use borrow.Author.Needs.{needs}
 use Rattle.pair.proofs.adjustment.pair_hazard.Statement.{statement}
 use Rattle.pair.proofs.adjustment.pair_hazard.Tie as tie
 
-add-break-range : tie.Need-add-break-range
-add-break-range c = search needs
+add-unsafe-to-break : tie.Need-add-unsafe-to-break
+add-unsafe-to-break c = search needs
 
-break-range-requires : tie.Need-break-range-requires
-break-range-requires c κs = search needs
+unsafe-to-break-requires : tie.Need-unsafe-to-break-requires
+unsafe-to-break-requires c κs = search needs
 
 returns : tie.Need-returns
-returns c = rw (c .before .if1 .taken) (c .break-range .ensures)
+returns c = rw (c .before .if1 .taken) (c .unsafe-to-break .ensures)
 
-add-concat-range : tie.Need-add-concat-range
-add-concat-range c = search needs
+add-unsafe-to-concat : tie.Need-add-unsafe-to-concat
+add-unsafe-to-concat c = search needs
 
-concat-range-requires : tie.Need-concat-range-requires
-concat-range-requires c κs = search needs
+unsafe-to-concat-requires : tie.Need-unsafe-to-concat-requires
+unsafe-to-concat-requires c κs = search needs
 
 returns-2 : tie.Need-returns-2
-returns-2 c = rw (c .before .if1 .left) (c .concat-range .ensures)
+returns-2 c = rw (c .before .if1 .left) (c .unsafe-to-concat .ensures)
 
 pub pair-hazard-spec : {M : Type 1} → statement M
 pair-hazard-spec =
     tie.close
     (tie.spec
-    add-break-range
-    break-range-requires
+    add-unsafe-to-break
+    unsafe-to-break-requires
     returns
-    add-concat-range
-    concat-range-requires
+    add-unsafe-to-concat
+    unsafe-to-concat-requires
     returns-2)

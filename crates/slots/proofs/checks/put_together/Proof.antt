@@ -6,7 +6,8 @@ use native.Mathlib.Omega.{arith}
 use borrow.Author.Needs.{needs}
 use lib.ListN.{drop}
 use Rattle.slots.specs.Line.{shapeWith, slots}
-use Rattle.slots.specs.Checks.{anyOutOfRange, outOfRange, some}
+use Rattle.slots.specs.code.Checks.{badFields}
+use Rattle.slots.specs.Checks.{badSlot, some}
 use Rattle.slots.proofs.LineLaws.{length-slots, lent-length, line-get, slot-end}
 use Rattle.slots.proofs.RangeLaws.{or-out}
 use Rattle.slots.proofs.SearchLaws.{some-here, some-none}
@@ -14,7 +15,7 @@ use Rattle.slots.proofs.checks.put_together.Statement.{statement}
 use Rattle.slots.proofs.checks.put_together.Tie as tie
 
 abbrev Inv-loop : tie.InvT-loop
-Inv-loop line size n all₀ i₀ all i = (i ≤ n) × (anyOutOfRange all ≡ some outOfRange (drop i (slots (shapeWith size n) line)))
+Inv-loop line size n all₀ i₀ all i = (i ≤ n) × (badFields all ≡ some badSlot (drop i (slots (shapeWith size n) line)))
 
 abbrev μ-loop : tie.MeasureT-loop
 μ-loop line size n all₀ i₀ all i = i
@@ -22,7 +23,7 @@ abbrev μ-loop : tie.MeasureT-loop
 loop-holds : tie.Need-loop-holds Inv-loop μ-loop
 loop-holds c =
     let a = c .before .args in
-    (omega arith, sym (some-none outOfRange (slots (shapeWith (a .size) (a .n)) (a .line .now)) (a .n) (omega (arith, length-slots (shapeWith (a .size) (a .n)) (a .line .now)))))
+    (omega arith, sym (some-none badSlot (slots (shapeWith (a .size) (a .n)) (a .line .now)) (a .n) (omega (arith, length-slots (shapeWith (a .size) (a .n)) (a .line .now)))))
 
 sub-i : tie.Need-sub-i Inv-loop μ-loop
 sub-i c = search needs
@@ -54,10 +55,10 @@ loop-again c =
     let ss = slots (shapeWith (a .size) (a .n)) (a .line .now) in
     let at-loop = c .before .before .before .loop in
     let i = at-loop .i - 1 in
-    let here = c .small-fields .ensures ∙ ap outOfRange (line-get (shapeWith (a .size) (a .n)) (a .line .now) i (search needs)) in (
+    let here = c .small-fields .ensures ∙ ap badSlot (line-get (shapeWith (a .size) (a .n)) (a .line .now) i (search needs)) in (
       omega arith,
       or-out (c .small-fields .result) (at-loop .all) ∙ ap₂ (λ a b. a || b) here (at-loop .inv .1)
-          ∙ sym (some-here outOfRange ss i (at-loop .i) (omega (arith, length-slots (shapeWith (a .size) (a .n)) (a .line .now))) (omega arith)),
+          ∙ sym (some-here badSlot ss i (at-loop .i) (omega (arith, length-slots (shapeWith (a .size) (a .n)) (a .line .now))) (omega arith)),
     )
 
 returns : tie.Need-returns Inv-loop μ-loop
@@ -65,7 +66,7 @@ returns c =
     let a = c .before .before .before .args in
     let at-loop = c .before .loop in
     let done : at-loop .i ≡ 0 = omega arith in
-    at-loop .inv .1 ∙ ap (λ i. some outOfRange (drop i (slots (shapeWith (a .size) (a .n)) (a .line .now)))) done
+    at-loop .inv .1 ∙ ap (λ i. some badSlot (drop i (slots (shapeWith (a .size) (a .n)) (a .line .now)))) done
 
 pub put-together-spec : {M : Type 1} → statement M
 put-together-spec =

@@ -3,7 +3,8 @@ use Prim.Native.Nat.{ℕ}
 use native.Mathlib.Omega.{arith}
 use mathlib.Core.Path.{ap, _∙_}
 use Rattle.slots.specs.Slot.{slotOf}
-use Rattle.ints.specs.Signed.{val, withInt}
+use Rattle.ints.specs.code.Signed.{val}
+use Rattle.ints.specs.Signed.{withInt}
 use Rattle.ints.proofs.SignedLaws.{signed-in}
 use Rattle.slots.specs.Fields.{withMeasure}
 use Rattle.slots.proofs.LineLaws.{lent, lent-length, line-update, slot-end}

@@ -2,7 +2,7 @@
 use native.Mathlib.Omega.{arith}
 use mathlib.Core.Path.{ap, _∙_}
 use Rattle.slots.specs.Slot.{slotOf}
-use Rattle.ints.specs.Signed.{val}
+use Rattle.ints.specs.code.Signed.{val}
 use Rattle.slots.specs.Fields.{withChain}
 use Rattle.slots.proofs.LineLaws.{lent, lent-length, line-update, slot-end}
 use Rattle.slots.proofs.FieldLaws.{chain-put}

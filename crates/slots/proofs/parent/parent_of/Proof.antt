@@ -3,7 +3,7 @@ use mathlib.Core.Path.{sym, ap, _∙_}
 use native.Mathlib.Omega.{arith}
 use lib.ListN.{length}
 use Rattle.ints.specs.Signed.{signed}
-use Rattle.slots.specs.Fields.{swapped}
+use Rattle.slots.specs.code.Fields.{swapped}
 use Rattle.slots.specs.Line.{slots}
 use Rattle.slots.specs.Parent.{parent, parentBy}
 use Rattle.slots.proofs.ChainLaws.{attached, unattached-chain}

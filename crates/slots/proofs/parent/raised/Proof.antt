@@ -1,6 +1,6 @@
 -- A number of 16 bits, raised by 2 ^ 15. Assumes nothing.
 use native.Mathlib.Omega.{arith}
-use Rattle.slots.specs.Fields.{swapped}
+use Rattle.slots.specs.code.Fields.{swapped}
 use Rattle.slots.proofs.ChainLaws.{raised-chain}
 use borrow.Author.Needs.{needs}
 use Rattle.slots.proofs.parent.raised.Statement.{statement}

@@ -1,6 +1,6 @@
 -- Each size that a slot may have is its own way. Assumes nothing.
 use mathlib.Core.Path.{sym, ap, _∙_}
-use Rattle.slots.specs.Checks.{cutOf}
+use Rattle.slots.specs.code.Shape.{cutOf}
 use Rattle.slots.proofs.ShapeLaws.{no-size}
 use borrow.Author.Needs.{needs}
 use Rattle.slots.proofs.shape.cut_of.Statement.{statement}

@@ -4,11 +4,11 @@ use mathlib.Core.Option.{Option, some}
 use lib.IntN.{ℤ}
 use borrow.Author.Needs.{needs}
 use borrow.Author.Tests.{le-leb, lt-leb}
-use Rattle.tables.specs.Anchor.{Spot}
+use Rattle.tables.specs.Anchor.{Point}
 use Rattle.tables.proofs.anchor.anchor_of.Statement.{statement}
 use Rattle.tables.proofs.anchor.anchor_of.Tie as tie
 
-abbrev at : ℤ → ℤ → Option Spot
+abbrev at : ℤ → ℤ → Option Point
 at x y = some (record { x = x; y = y })
 
 returns : tie.Need-returns

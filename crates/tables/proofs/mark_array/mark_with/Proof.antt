@@ -6,7 +6,8 @@ use Prim.Native.Nat.{ℕ}
 use lib.ListN.{drop}
 use borrow.Author.Needs.{needs}
 use denote.Ref.{now}
-use Rattle.tables.specs.Anchor.{AnchorNear, anchorOf, spot}
+use Rattle.tables.specs.code.Meant.{AnchorNear, anchorPoint}
+use Rattle.tables.specs.Anchor.{anchorOf}
 use Rattle.tables.specs.MarkArray.{withClass}
 use Rattle.tables.proofs.PartLaws.{past-end, to-end}
 use Rattle.tables.proofs.mark_array.mark_with.Statement.{statement}
@@ -37,7 +38,7 @@ enum-told c = search needs
 
 -- what the call of `anchor_of` found is the anchor at the offset
 whole : (c : tie.After-anchor-of)
-    → anchorOf (drop (c .before .before .before .before .args .off) (now (c .before .before .before .before .args .t))) ≡ spot (c .anchor-of .result)
+    → anchorOf (drop (c .before .before .before .before .args .off) (now (c .before .before .before .before .args .t))) ≡ anchorPoint (c .anchor-of .result)
 whole c =
     let a = c .before .before .before .before .args in
     sym (c .anchor-of .ensures .0 ∙ ap anchorOf (to-end (now (a .t)) (a .off)))
@@ -46,14 +47,14 @@ returns-2 : tie.Need-returns-2
 returns-2 c =
     let k = c .before .before .before in
     let e = c .before .p .given .1 in (
-      sym (ap (withClass (k .before .before .before .before .args .class)) (whole k ∙ ap spot e)),
+      sym (ap (withClass (k .before .before .before .before .args .class)) (whole k ∙ ap anchorPoint e)),
       subst AnchorNear e (k .anchor-of .ensures .1),
     )
 
 returns-3 : tie.Need-returns-3
 returns-3 c =
     let k = c .before .before in
-    (sym (ap (withClass (k .before .before .before .before .args .class)) (whole k ∙ ap spot (c .enum-told .given .1))), tt)
+    (sym (ap (withClass (k .before .before .before .before .args .class)) (whole k ∙ ap anchorPoint (c .enum-told .given .1))), tt)
 
 pub mark-with-spec : {M : Type 1} → statement M
 mark-with-spec =

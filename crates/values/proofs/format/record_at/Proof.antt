@@ -7,7 +7,8 @@ use native.Mathlib.Omega.{arith}
 use lib.ListN.{drop, length, take}
 use borrow.Author.Tests.{le-leb, lt-leb}
 use borrow.Author.Needs.{needs}
-use Rattle.values.specs.Format.{recordAt, recordLength, WholeOrEmpty}
+use Rattle.values.specs.Format.{recordAt, recordLength}
+use Rattle.values.specs.code.Format.{WholeOrEmpty}
 use Rattle.values.proofs.FormatLaws.{found-whole}
 use Rattle.values.proofs.format.record_at.Statement.{statement}
 use Rattle.values.proofs.format.record_at.Tie as tie

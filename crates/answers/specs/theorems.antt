@@ -1,0 +1,1 @@
+pub mod Hazards  -- how many hazards a call may report

@@ -1,0 +1,1 @@
+pub mod Made  -- what a call, made by its numbers, may answer

@@ -1,0 +1,1 @@
+pub mod Steps  -- steps of a walk

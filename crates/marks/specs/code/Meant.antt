@@ -1,0 +1,61 @@
+-- What code's values stand for, and the bounds that code leans on. Assumes nothing.
+use mathlib.Core.Option.{Option, some, none}
+use Prim.Native.Nat.{ℕ, _+_, _-_, _≤_, _<_}
+use lib.IntN.{ℤ}
+use Rattle.ints.specs.code.Signed.{val}
+use Rattle.slots.specs.Parent.{chainLimit}
+use Rattle.tables.specs.code.Meant.{Near16, pointOf}
+use Rattle.answers.specs.Said.{ranges}
+use Rattle.marks.specs.Anchors.{Anchors, both, missing, empty}
+use Rattle.marks.specs.Plan.{Plan, stop, endless, hang}
+use Rattle.marks.specs.declared.anchors.Anchors.{Anchors as CodeAnchors}
+use Rattle.marks.specs.declared.anchors.Anchors.the-variants.{Both, Missing, Empty}
+use Rattle.marks.specs.declared.plan.Plan.{Plan as CodePlan}
+use Rattle.marks.specs.declared.plan.Plan.the-variants.{Stop, Endless, Hang}
+use Rattle.marks.specs.declared.search.Found.{Found as CodeFound}
+use Rattle.marks.specs.declared.search.Found.the-variants.{Slot, Nowhere}
+use Rattle.marks.specs.declared.walk.Walk.{Walk}
+use Rattle.marks.specs.declared.walk.Walk.the-variants.{Sum, Endless as CodeEndless}
+
+-- a slot found, or none
+abbrev pub foundOf : CodeFound → Option ℕ
+foundOf (Slot i) = some i
+foundOf Nowhere = none
+
+-- it is before slot idx
+abbrev pub Before : ℕ → CodeFound → Type 0
+Before idx (Slot i) = i < idx
+Before idx Nowhere = Unit {0}
+
+-- the anchors found
+abbrev pub anchorsOf : CodeAnchors → Anchors
+anchorsOf (Both base mark) = both (pointOf base) (pointOf mark)
+anchorsOf Missing = missing
+anchorsOf Empty = empty
+
+-- the coordinates of anchors found are numbers of 16 bits
+abbrev pub AnchorsNear : CodeAnchors → Type 0
+AnchorsNear (Both base mark) = Near16 base × Near16 mark
+AnchorsNear Missing = Unit {0}
+AnchorsNear Empty = Unit {0}
+
+-- the sum of a walk, if it ends
+abbrev pub walkOf : Walk → Option ℤ
+walkOf (Sum v) = some (val v)
+walkOf CodeEndless = none
+
+-- the plan that code's plan stands for
+abbrev pub meant : CodePlan → Plan
+meant (Stop hs) = stop (ranges hs)
+meant Endless = endless
+meant (Hang b base mark walk) = hang b (pointOf base) (pointOf mark) (val walk)
+
+-- the slot to hang on is before slot idx, and the anchors are numbers of 16 bits
+abbrev pub Sound : ℕ → CodePlan → Type 0
+Sound idx (Stop hs) = Unit {0}
+Sound idx Endless = Unit {0}
+Sound idx (Hang b base mark walk) = (b < idx) × (Near16 base × Near16 mark)
+
+-- slot b is near enough to slot idx for a chain of 16 bits
+abbrev pub InReach : ℕ → ℕ → Type 0
+InReach idx b = idx - b ≤ chainLimit

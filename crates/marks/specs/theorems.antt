@@ -1,0 +1,1 @@
+pub mod Endless  -- a walk that never ends

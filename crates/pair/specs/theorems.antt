@@ -1,0 +1,1 @@
+pub mod PlainReading  -- the plain reading of a pair set, which the probe finds by halves

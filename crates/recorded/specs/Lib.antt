@@ -1,0 +1,1 @@
+pub mod Recorded  -- what is recorded of a call

@@ -1,0 +1,58 @@
+// Single adjustment of one slot: the value record of its glyph is looked up, and applied to it. The caller has checked
+// the line, the scale and the subtable.
+use crate::single_pos::VALUE_FORMAT;
+use crate::single_pos::ValuePlace;
+use answers::Answer;
+use answers::Hazards;
+use ints::big_endian::read_u16;
+use slots::axis::Direction;
+use slots::shape::Shape;
+ghost use mathlib.Core.Bool.{true};
+ghost use mathlib.Core.Path.{_≡_};
+ghost use Rattle.ints.specs.code.Scale.{InScale};
+ghost use Rattle.slots.specs.code.Shape.{Inside};
+ghost use Rattle.slots.specs.Line.{slots};
+ghost use Rattle.answers.specs.code.Effect.{MadeOn};
+ghost use Rattle.answers.specs.Said.{said};
+ghost use Rattle.single.specs.SinglePos.{singleAdjustment, singleGood};
+
+// Slot i adjusted by its glyph's value record. A record that is cut or does nothing counts as applied too, so that no
+// further subtable of the lookup is tried.
+pub fn apply(
+    line: &mut [u8],
+    shape: Shape,
+    t: &[u8],
+    d: Direction,
+    s: u32,
+    u: u32,
+    i: usize,
+) -> Answer
+    requires { ⌜ Inside shape (now line) i × InScale s u × (singleGood (now t) ≡ true) ⌝ }
+    ensures { λ r. ⌜ MadeOn (singleAdjustment (now (t .entry)) d s u i) (slots shape (now (line .entry))) (said r)
+        (slots shape (now (line .exit))) ⌝ }
+{
+    let place = crate::single_pos::place_for(t, slots::fields::glyph(line, shape, i));
+    match place {
+        ValuePlace::Nowhere => Answer::Declined {
+            hazards: Hazards::None,
+        },
+        ValuePlace::Byte(at) => {
+            let format = read_u16(t, VALUE_FORMAT);
+            values::value::apply_value(
+                line,
+                shape,
+                i,
+                values::format::record_at(t, at, format),
+                format,
+                d,
+                s,
+                u,
+            );
+            Answer::Applied {
+                next: i + 1,
+                hazards: Hazards::None,
+                attached: false,
+            }
+        }
+    }
+}

@@ -1,0 +1,2 @@
+pub mod Storable  -- what a slot's bytes can hold
+pub mod Clusters  -- slots with other clusters
