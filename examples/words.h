@@ -23,7 +23,7 @@ static void say(const char *call, gpos_answer a) {
     printf("%s: %s", call, status[a.status]);
     if (a.status == GPOS_REFUSED) printf(" with %u", a.refusal);
     if (a.status == GPOS_APPLIED) printf(", next %zu%s", a.next, a.attached ? ", attached" : "");
-    for (uint32_t k = 0; k < a.hazards; k++) printf(", %s [%zu, %zu)", a.hazard[k].kind == GPOS_BREAK ? "break" : "concat", a.hazard[k].start, a.hazard[k].end);
+    for (uint32_t k = 0; k < a.hazards; k++) printf(", %s [%zu, %zu)", a.hazard[k].kind == GPOS_UNSAFE_TO_BREAK ? "break" : "concat", a.hazard[k].start, a.hazard[k].end);
     puts("");
 }
 

@@ -1,8 +1,13 @@
 //! Makes calls, asks the oracle and the port, and compares every field and every byte. oracle/run builds both and starts this.
+mod anchors;
 mod call;
 mod compare;
+mod edges;
+mod glyph_lists;
+mod groups;
 mod lines;
 mod list;
+mod long_lines;
 mod moves;
 mod planted;
 mod rng;
@@ -10,6 +15,7 @@ mod sets;
 mod shrink;
 mod sides;
 mod tables;
+mod worked_sums;
 
 use call::*;
 use sides::Side;
@@ -25,7 +31,8 @@ struct Options {
     kinds: Vec<usize>,
     replay: Option<String>,
     planted: bool,
-    list: Option<String>,
+    /// The list of replay, and that of sums.
+    lists: Option<[String; 2]>,
 }
 
 fn fail(text: &str) -> ! {
@@ -54,7 +61,7 @@ fn options() -> Options {
         kinds: (0..NAMES.len()).collect(),
         replay: None,
         planted: false,
-        list: None,
+        lists: None,
     };
     let mut words = std::env::args().skip(1);
     while let Some(word) = words.next() {
@@ -69,7 +76,7 @@ fn options() -> Options {
             "--kinds" => o.kinds = kinds(&value()),
             "--replay" => o.replay = Some(value()),
             "--planted" => o.planted = true,
-            "--list" => o.list = Some(value()),
+            "--lists" => o.lists = Some([value(), value()]),
             _ => fail(&format!("unknown word {word}")),
         }
     }
@@ -119,8 +126,11 @@ fn main() {
         let names: Vec<&str> = absent.iter().map(|k| NAMES[*k]).collect();
         println!("skipped, since the C face doesn't have them yet: {}", names.join(", "));
     }
-    if let Some(path) = &o.list {
-        return list::write(path, &kinds, &mut Side::start(&o.oracle));
+    if let Some(paths) = &o.lists {
+        if !absent.is_empty() {
+            fail("the lists want every kind of call");
+        }
+        return list::write(paths, &kinds, &mut Side::start(&o.oracle), &mut Side::start(&o.port));
     }
     let good = if let Some(text) = &o.replay {
         let call = unhex(text).and_then(|b| Call::parse(&b)).unwrap_or_else(|| fail("that is not the hex of a call"));

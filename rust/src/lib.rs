@@ -129,9 +129,9 @@ pub struct Scale {
 #[derive(Clone, Copy, Debug, PartialEq, Eq)]
 pub enum HazardKind {
     /// Unsafe to break.
-    Break,
+    UnsafeToBreak,
     /// Unsafe to concatenate.
-    Concat,
+    UnsafeToConcat,
 }
 
 /// Glyphs that lean on each other. The range is as the lookup names it: it may reach past the line's end, and with a bound for a missing glyph it may be empty or
@@ -172,8 +172,8 @@ fn done(number: u32) -> Result<(), Refusal> {
 
 fn hazard(h: ffi::Hazard) -> Option<Hazard> {
     let kind = match h.kind {
-        1 => HazardKind::Break,
-        2 => HazardKind::Concat,
+        1 => HazardKind::UnsafeToBreak,
+        2 => HazardKind::UnsafeToConcat,
         _ => return None,
     };
     Some(Hazard { kind, range: h.start..h.end })
@@ -230,7 +230,7 @@ pub struct At {
 #[derive(Clone, Copy, Debug, PartialEq, Eq)]
 pub enum Neighbour {
     /// It is in this slot.
-    At(usize),
+    Named(usize),
     /// There is none, and this is how far the text was searched: the end for a pair, the start for a cursive attachment.
     Missing(usize),
 }
@@ -238,7 +238,7 @@ pub enum Neighbour {
 impl Neighbour {
     fn numbers(self) -> (u32, usize) {
         match self {
-            Self::At(slot) => (0, slot),
+            Self::Named(slot) => (0, slot),
             Self::Missing(bound) => (1, bound),
         }
     }

@@ -80,16 +80,16 @@ fn kern(formats: [i16; 2], values: &[i16]) -> Vec<u8> {
 fn pairs_say_what_leans_on_what() {
     for form in FORMS {
         let mut line = line_in(form, &[glyph(1), glyph(2)]);
-        let got = pair(&mut line, form, &kern([4, 0], &[-50]), at(0), Neighbour::At(1));
-        assert_eq!(got, Ok(Outcome::Applied { next: 1, hazards: [hazard(HazardKind::Break, 0..2), None], attached: false }));
+        let got = pair(&mut line, form, &kern([4, 0], &[-50]), at(0), Neighbour::Named(1));
+        assert_eq!(got, Ok(Outcome::Applied { next: 1, hazards: [hazard(HazardKind::UnsafeToBreak, 0..2), None], attached: false }));
         assert_eq!(slots(form, &line)[0].x_advance, 550);
-        let got = pair(&mut line, form, &kern([4, 4], &[-50, 0]), at(0), Neighbour::At(1));
-        let hazards = [hazard(HazardKind::Break, 0..2), hazard(HazardKind::Break, 0..3)];
+        let got = pair(&mut line, form, &kern([4, 4], &[-50, 0]), at(0), Neighbour::Named(1));
+        let hazards = [hazard(HazardKind::UnsafeToBreak, 0..2), hazard(HazardKind::UnsafeToBreak, 0..3)];
         assert_eq!(got, Ok(Outcome::Applied { next: 2, hazards, attached: false }));
         let got = pair(&mut line, form, &kern([4, 0], &[-50]), at(1), Neighbour::Missing(2));
         assert_eq!(got, Ok(Outcome::Declined { hazard: None }), "glyph 2 is uncovered");
         let got = pair(&mut line, form, &kern([4, 0], &[-50]), at(0), Neighbour::Missing(2));
-        assert_eq!(got, Ok(Outcome::Declined { hazard: hazard(HazardKind::Concat, 0..2) }));
+        assert_eq!(got, Ok(Outcome::Declined { hazard: hazard(HazardKind::UnsafeToConcat, 0..2) }));
     }
 }
 
@@ -98,8 +98,8 @@ fn cursive_joins_anchors() {
     let table = words(&[1, 14, 2, 0, 22, 28, 0, 1, 2, 1, 2, 1, 500, 20, 1, 30, 5]);
     for form in FORMS {
         let mut line = line_in(form, &[glyph(1), glyph(2)]);
-        let got = cursive(&mut line, form, &table, at(1), Neighbour::At(0), 0);
-        assert_eq!(got, Ok(Outcome::Applied { next: 2, hazards: [hazard(HazardKind::Break, 0..2), None], attached: true }));
+        let got = cursive(&mut line, form, &table, at(1), Neighbour::Named(0), 0);
+        assert_eq!(got, Ok(Outcome::Applied { next: 2, hazards: [hazard(HazardKind::UnsafeToBreak, 0..2), None], attached: true }));
         let s = slots(form, &line);
         assert_eq!((s[0].x_advance, s[1].x_advance, s[1].x_offset, s[1].y_offset, s[1].chain), (500, 570, -30, 15, -1));
     }
@@ -118,7 +118,7 @@ fn marks_attach_to_bases_and_ligatures() {
         let mark = Slot { glyph: 2, flags: Slot::MARK, ..Slot::default() };
         let mut line = line_in(form, &[glyph(1), mark]);
         let got = if ligature { mark_ligature(&mut line, form, &marks(true), at(1)) } else { mark_base(&mut line, form, &marks(false), at(1)) };
-        assert_eq!(got, Ok(Outcome::Applied { next: 2, hazards: [hazard(HazardKind::Break, 0..2), None], attached: true }));
+        assert_eq!(got, Ok(Outcome::Applied { next: 2, hazards: [hazard(HazardKind::UnsafeToBreak, 0..2), None], attached: true }));
         let s = slots(form, &line)[1];
         assert_eq!((s.attach_type, s.chain, s.x_offset, s.y_offset), (Slot::TYPE_MARK, -1, 290, 680));
     }
