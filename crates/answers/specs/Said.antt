@@ -19,15 +19,15 @@ use Rattle.answers.specs.declared.Done.the-variants.{Done as DoneNow, Re
 
 -- a hazard: "break" or "concat", from a start up to an end, which is not included
 pub data Range : Type 0 where
-  unsafeToBreak : ℕ → ℕ → Range
-  unsafeToConcat : ℕ → ℕ → Range
+  unsafeToBreak : (start end : ℕ) → Range
+  unsafeToConcat : (start end : ℕ) → Range
 
 -- What a call says. Applied: the next index, the hazards in order, whether it attached. Declined: one hazard or none.
 -- Refused: a number of the documents. Starting, finishing and the moves say only "done".
 pub data Said : Type 0 where
-  applied : ℕ → List Range → Bool → Said
-  declined : List Range → Said
-  refused : ℕ → Said
+  applied : (next : ℕ) (hazards : List Range) (attached : Bool) → Said
+  declined : (hazards : List Range) → Said
+  refused : (number : ℕ) → Said
   done : Said
 
 -- the table of refusals, of document 01

@@ -9,7 +9,7 @@ use lib.Dec.{leb}
 use lib.IntN.{ℤ, pos, negsuc, negℤ}
 use lib.ListN.{length}
 use Rattle.ints.specs.Saturating.{satSub, satNeg, satAdd}
-use Rattle.ints.specs.Signed.{InBytes, signed}
+use Rattle.ints.specs.Signed.{InBytes, signed, sameAs}
 use Rattle.ints.specs.code.Signed.{val}
 use Rattle.ints.proofs.SaturatingLaws.{negated-exact}
 use Rattle.ints.proofs.SignedLaws.{signed-same}
@@ -24,7 +24,7 @@ use Rattle.slots.proofs.LineLaws.{update-as, update-both}
 use Rattle.slots.specs.Axis.{cross, main}
 use Rattle.slots.specs.declared.axis.Direction.{Direction}
 use Rattle.tables.specs.Anchor.{Point}
-use Rattle.cursive.specs.Attachment.{crossed, ended, joinedAt, previousJoined, pulled, rightToLeft, sameAs, scaledAt, separatedBy, thisJoined, tied}
+use Rattle.cursive.specs.Attachment.{crossed, ended, joinedAt, previousJoined, pulled, rightToLeft, scaledAt, separatedBy, thisJoined, tied}
 use Rattle.cursive.specs.Chains.{chainTo}
 use Rattle.cursive.specs.Reversal.{reversed}
 

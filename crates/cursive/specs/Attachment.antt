@@ -1,13 +1,13 @@
 -- Cursive attachment: what joining two glyphs does to the line. Assumes nothing.
-use mathlib.Core.Bool.{Bool, true, false, _&&_}
+use mathlib.Core.Bool.{Bool, true, false}
 use mathlib.Core.List.{List}
 use Prim.Native.Nat.{ℕ, _%_}
 use lib.Dec.{eqb}
 use lib.IntN.{ℤ, pos, negℤ}
-use lib.Signed.{leZ}
 use Rattle.ints.specs.Choice.{if_then_else_}
 use Rattle.ints.specs.Saturating.{satSub, satNeg, satAdd}
 use Rattle.ints.specs.Scale.{scaled}
+use Rattle.ints.specs.Signed.{sameAs}
 use Rattle.slots.specs.Axis.{cross, main}
 use Rattle.slots.specs.Slot.{Slot}
 use Rattle.slots.specs.Line.{slot, update}
@@ -72,10 +72,6 @@ abbrev pub childAttached : Axis → ℕ → ℕ → ℤ → List Slot → List S
 childAttached a child parent z ss =
     update child (λ s. attached cursiveType (chainTo child parent) (withMeasure Offset a z s))
     (reversed a ss child parent)
-
--- are the two integers the same?
-abbrev pub sameAs : ℤ → ℤ → Bool
-sameAs z w = leZ z w && leZ w z
 
 -- The parent separated, whatever its type, if it was attached to a child that hangs on it by the chain c: else the two
 -- would hang on each other (harfbuzz #2469). Its type byte stays.

@@ -14,11 +14,11 @@ use tables::header::POS_FORMAT;
 ghost use mathlib.Core.Bool.{true};
 ghost use mathlib.Core.Path.{_≡_};
 ghost use Prim.Native.Nat.{_<_};
+ghost use Rattle.ints.specs.Limits.{whole16};
 ghost use Rattle.slots.specs.code.Shape.{HasNext, Inside};
 ghost use Rattle.slots.specs.Line.{slots};
 ghost use Rattle.tables.specs.code.Meant.{AnchorNear, Near16, anchorPoint, pointOf};
-ghost use Rattle.cursive.specs.CursivePos.{cursiveGood, afterEntry, afterExit, afterNeighbour, afterPrevious};
-ghost use Rattle.cursive.specs.CursivePos.{indexOf, planOf, recordAnchor};
+ghost use Rattle.cursive.specs.CursivePos.{cursiveGood, afterEntry, afterExit, afterNeighbour, afterPrevious, indexOf, planOf, recordAnchor};
 ghost use Rattle.cursive.specs.code.Meant.{Before, meant, Sound};
 
 // The fields after POS_FORMAT and COVERAGE_OFFSET.
@@ -160,7 +160,7 @@ fn after_exit(idx: usize, i: usize, entry: Point, exit: Anchor) -> Plan
 
 // A glyph's coverage index.
 fn index_of(t: &[u8], glyph: u32) -> Covered
-    requires { ⌜ (glyph < 65536) × (cursiveGood (now t) ≡ true) ⌝ }
+    requires { ⌜ (glyph < whole16) × (cursiveGood (now t) ≡ true) ⌝ }
     ensures { λ r. ⌜ r ≡ indexOf (now (t .entry)) glyph ⌝ }
 {
     tables::coverage::index_at(t, read_u16(t, COVERAGE_OFFSET) as usize, glyph)

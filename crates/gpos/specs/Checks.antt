@@ -4,6 +4,7 @@ use mathlib.Core.Bool.{Bool, _||_}
 use mathlib.Core.List.{List, [], _∷_, _++_}
 use Prim.Native.Nat.{ℕ}
 use lib.Dec.{ltb}
+use Rattle.ints.specs.Scale.{leastUpem, mostSize, mostUpem}
 use Rattle.slots.specs.Axis.{directionOf}
 use Rattle.slots.specs.Checks.{badSlots}
 use Rattle.slots.specs.Slot.{Slot}
@@ -11,9 +12,9 @@ use Rattle.slots.specs.declared.axis.Direction.{Direction}
 use Rattle.answers.specs.Outcome.{Call}
 use Rattle.answers.specs.Said.{unless}
 
--- s not from 1 to 32,768, or u not from 16 to 16,384
+-- s or u not in its range
 abbrev pub badScale : ℕ → ℕ → Bool
-badScale s u = ltb s 1 || (ltb 32768 s || (ltb u 16 || ltb 16384 u))
+badScale s u = ltb s 1 || (ltb mostSize s || (ltb u leastUpem || ltb mostUpem u))
 
 -- refusals 2 to 4: the direction, a number out of its range, a slot out of range
 abbrev pub slotTests : List Slot → ℕ → Bool → List (Bool × ℕ)

@@ -1,5 +1,8 @@
 // The checks that calls share, each made once, in the order of document 01's table: refusals 1 to 4.
 use answers::Refusal;
+use ints::scale::LEAST_UPEM;
+use ints::scale::MOST_SIZE;
+use ints::scale::MOST_UPEM;
 use slots::shape::Cut;
 use slots::shape::Shape;
 use slots::shape::cut_of;
@@ -20,13 +23,13 @@ fn is_bad_scale(s: u32, u: u32) -> bool
     if s < 1 {
         return true;
     }
-    if 32768 < s {
+    if MOST_SIZE < s {
         return true;
     }
-    if u < 16 {
+    if u < LEAST_UPEM {
         return true;
     }
-    16384 < u
+    MOST_UPEM < u
 }
 
 // Refusals 1 to 4: `unfit` says that another number is out of its range.

@@ -12,12 +12,12 @@ pub fn finish(line: &mut [u8], size: usize, direction: u32, limit: u32, attachme
 {
     let checked = check_slots(line, size, direction, 64 < limit);
     match checked {
-        Checked::Refused(r) => return Done::Refused(r),
+        Checked::Refused(r) => Done::Refused(r),
         Checked::Slots(shape) => {
             if attachments {
                 finish::finishing::finish_line(line, shape, direction_of(direction), limit);
             }
-            return Done::Done;
+            Done::Done
         }
     }
 }

@@ -1,9 +1,10 @@
 -- Signed numbers: plain integers here, and in bytes and in code their two's complement. Assumes nothing.
+use mathlib.Core.Bool.{Bool, _&&_}
 use mathlib.Core.List.{List}
 use Prim.Native.Nat.{ℕ, _+_, _-_, _/_, _^_, _<_}
 use lib.Dec.{ltb}
 use lib.IntN.{ℤ, pos, negsuc, _-ℤ_}
-use lib.Signed.{mag}
+use lib.Signed.{leZ, mag}
 use Rattle.ints.specs.Choice.{if_then_else_}
 use Rattle.ints.specs.BigEndian.{natAt, withNat}
 
@@ -31,3 +32,7 @@ intAt w l at = signed w (natAt w l at)
 -- the list with the integer z in the w bytes at `at`
 unfoldable pub withInt : ℕ → List ℕ → ℕ → ℤ → List ℕ
 withInt w l at z = withNat w l at (pattern w z)
+
+-- are the two integers the same?
+abbrev pub sameAs : ℤ → ℤ → Bool
+sameAs z w = leZ z w && leZ w z

@@ -12,6 +12,13 @@ ghost use Rattle.ints.specs.Limits.{whole16};
 ghost use Rattle.ints.specs.code.Scale.{InScale, mostScaled};
 ghost use Rattle.ints.specs.Scale.{scaled};
 
+// s is from 1 to 32,768, u from 16 to 16,384.
+pub const MOST_SIZE: u32 = 32768;
+
+pub const LEAST_UPEM: u32 = 16;
+
+pub const MOST_UPEM: u32 = 16384;
+
 // v at the scale s / u, for a v that is a number of 16 bits or the difference of two. The quotient is 2 ^ 31 higher, as
 // sums want it.
 pub fn scale(v: Signed, s: u32, u: u32) -> Signed

@@ -26,7 +26,8 @@ use Rattle.marks.specs.Component.{componentIndex}
 use Rattle.marks.specs.Anchors.{anchorsFor}
 use Rattle.marks.specs.MarkPos.{baseIndex, markIndex, marksGood}
 use Rattle.marks.specs.Plan.{endless, fits, hang, Plan, planOf, planSaid, stop}
-use Rattle.marks.specs.Search.{accepted, nearest, stopsAt}
+use Rattle.marks.specs.Search.{accepted, stopsAt}
+use Rattle.ints.specs.Tally.{nearest}
 use Rattle.marks.specs.Walk.{crossOffset, crossOffsetIn}
 use Rattle.marks.specs.theorems.Endless.{Endless}
 use Rattle.marks.specs.declared.mark_pos.Target.the-variants.{Base, Ligature}

@@ -13,7 +13,8 @@ use Rattle.slots.specs.Line.{slot}
 use Rattle.slots.specs.Fields.{flagOf}
 use Rattle.slots.specs.declared.fields.Flag.the-variants.{Seen, Mark, Multiplied}
 use Rattle.marks.specs.MarkPos.{baseIndex}
-use Rattle.marks.specs.Search.{accepted, goesOn, isCovered, isFirst, nearest, stopsAt}
+use Rattle.marks.specs.Search.{accepted, goesOn, isCovered, isFirst, stopsAt}
+use Rattle.ints.specs.Tally.{nearest}
 use Rattle.marks.specs.declared.mark_pos.Target.{Target}
 use Rattle.marks.specs.declared.mark_pos.Target.the-variants.{Base, Ligature}
 

@@ -1,10 +1,10 @@
 -- The search for what a mark attaches to (`find_mark_base`). Assumes nothing.
 use mathlib.Core.Bool.{Bool, true, false, not, _&&_, _||_}
 use mathlib.Core.List.{List}
-use mathlib.Core.Option.{Option, some, none}
-use Prim.Native.Nat.{ℕ, zero, suc, _+_, _-_}
+use mathlib.Core.Option.{Option}
+use Prim.Native.Nat.{ℕ, _+_, _-_}
 use lib.Dec.{eqb}
-use Rattle.ints.specs.Choice.{if_then_else_}
+use Rattle.ints.specs.Tally.{nearest}
 use Rattle.slots.specs.Slot.{Slot}
 use Rattle.slots.specs.Line.{slot}
 use Rattle.slots.specs.Fields.{flagOf}
@@ -44,11 +44,6 @@ isCovered Not = false
 -- the search, and nothing farther is looked for.
 unfoldable pub stopsAt : Target → List ℕ → List Slot → ℕ → Bool
 stopsAt target t ss i = flagOf Seen (slot ss i) && (accepted target ss i || isCovered (baseIndex t (slot ss i .glyph)))
-
--- the nearest number below n that passes the test
-unfoldable pub nearest : (ℕ → Bool) → ℕ → Option ℕ
-nearest p zero = none
-nearest p (suc n) = if p n then some n else nearest p n
 
 -- the nearest slot before idx at which the search stops
 abbrev pub foundFor : Target → List ℕ → List Slot → ℕ → Option ℕ

@@ -15,6 +15,7 @@ use tables::part::table_at;
 ghost use mathlib.Core.Bool.{true};
 ghost use mathlib.Core.Path.{_≡_};
 ghost use Prim.Native.Nat.{_<_};
+ghost use Rattle.ints.specs.Limits.{whole16};
 ghost use Rattle.slots.specs.code.Shape.{Inside};
 ghost use Rattle.slots.specs.Line.{slot, slots};
 ghost use Rattle.tables.specs.code.Meant.{AnchorNear, Near16, anchorPoint, pointOf, MarkNear, markAnchor};
@@ -117,7 +118,7 @@ fn no_rows(target: Target) -> Anchors
 
 // There are rows: the mark has an anchor and a class, by which the base's is looked up, or not.
 fn after_mark(rows: &[u8], n: usize, columns: usize, row: usize, mark: Mark) -> Anchors
-    requires { ⌜ (n < 65536) × (columns < 65536) × MarkNear mark ⌝ }
+    requires { ⌜ (n < whole16) × (columns < whole16) × MarkNear mark ⌝ }
     ensures { λ r. ⌜ (anchorsOf r ≡ afterMark (now (rows .entry)) n columns row (markAnchor mark)) × AnchorsNear r ⌝ }
 {
     match mark {

@@ -6,6 +6,7 @@ use tables::header::POS_FORMAT;
 ghost use mathlib.Core.Bool.{true};
 ghost use mathlib.Core.Path.{_≡_};
 ghost use Prim.Native.Nat.{_<_};
+ghost use Rattle.ints.specs.Limits.{whole16};
 ghost use Rattle.marks.specs.MarkPos.{baseIndex, markIndex, marksGood};
 
 // The fields after POS_FORMAT, by the names of MarkBasePos; MarkLigPos says ligature where it says base.
@@ -49,7 +50,7 @@ pub fn is_good(t: &[u8]) -> bool
 
 // A glyph's coverage index among the marks.
 pub fn mark_index(t: &[u8], glyph: u32) -> Covered
-    requires { ⌜ (glyph < 65536) × (marksGood (now t) ≡ true) ⌝ }
+    requires { ⌜ (glyph < whole16) × (marksGood (now t) ≡ true) ⌝ }
     ensures { λ r. ⌜ r ≡ markIndex (now (t .entry)) glyph ⌝ }
 {
     tables::coverage::index_at(t, read_u16(t, MARK_COVERAGE_OFFSET) as usize, glyph)
@@ -57,7 +58,7 @@ pub fn mark_index(t: &[u8], glyph: u32) -> Covered
 
 // A glyph's coverage index among the bases or ligatures.
 pub fn base_index(t: &[u8], glyph: u32) -> Covered
-    requires { ⌜ (glyph < 65536) × (marksGood (now t) ≡ true) ⌝ }
+    requires { ⌜ (glyph < whole16) × (marksGood (now t) ≡ true) ⌝ }
     ensures { λ r. ⌜ r ≡ baseIndex (now (t .entry)) glyph ⌝ }
 {
     tables::coverage::index_at(t, read_u16(t, BASE_COVERAGE_OFFSET) as usize, glyph)

@@ -8,6 +8,7 @@ use tables::coverage::Covered;
 ghost use mathlib.Core.Bool.{true};
 ghost use mathlib.Core.Path.{_≡_};
 ghost use Prim.Native.Nat.{_-_, _≤_, _<_};
+ghost use Rattle.ints.specs.Limits.{whole16};
 ghost use Rattle.slots.specs.code.Shape.{Fits, Inside};
 ghost use Rattle.slots.specs.Line.{slot, slots};
 ghost use Rattle.marks.specs.MarkPos.{baseIndex, marksGood};
@@ -109,7 +110,7 @@ fn goes_on(line: &[u8], shape: Shape, p: usize, i: usize) -> bool
 
 // Is a glyph covered among the bases or ligatures?
 fn is_base(t: &[u8], glyph: u32) -> bool
-    requires { ⌜ (glyph < 65536) × (marksGood (now t) ≡ true) ⌝ }
+    requires { ⌜ (glyph < whole16) × (marksGood (now t) ≡ true) ⌝ }
     ensures { λ r. ⌜ r ≡ isCovered (baseIndex (now (t .entry)) glyph) ⌝ }
 {
     match base_index(t, glyph) {

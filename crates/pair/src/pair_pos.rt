@@ -8,9 +8,9 @@ use tables::header::header_good;
 ghost use mathlib.Core.Bool.{true};
 ghost use mathlib.Core.Path.{_≡_};
 ghost use Prim.Native.Nat.{_≤_, _<_};
+ghost use Rattle.ints.specs.Limits.{whole16};
 ghost use Rattle.tables.specs.Header.{headerGood};
-ghost use Rattle.pair.specs.PairPos.{classesGood, firstIndex, pairGood, pairLength, class1Records};
-ghost use Rattle.pair.specs.PairPos.{pairSetOffsets};
+ghost use Rattle.pair.specs.PairPos.{classesGood, firstIndex, pairGood, pairLength, class1Records, pairSetOffsets};
 
 // The fields of the header that both formats have after those of every subtable.
 pub const VALUE_FORMAT1: usize = 4;
@@ -71,7 +71,7 @@ fn classes_good(t: &[u8]) -> bool
 
 // A first glyph's coverage index.
 pub fn first_index(t: &[u8], glyph: u32) -> Covered
-    requires { ⌜ (glyph < 65536) × (pairGood (now t) ≡ true) ⌝ }
+    requires { ⌜ (glyph < whole16) × (pairGood (now t) ≡ true) ⌝ }
     ensures { λ r. ⌜ r ≡ firstIndex (now (t .entry)) glyph ⌝ }
 {
     tables::coverage::index_at(t, read_u16(t, COVERAGE_OFFSET) as usize, glyph)

@@ -24,6 +24,7 @@ ghost use mathlib.Core.Bool.{true};
 ghost use mathlib.Core.Path.{_≡_};
 ghost use Prim.Native.Nat.{_≤_, _<_};
 ghost use lib.ListN.{drop, length};
+ghost use Rattle.ints.specs.Limits.{whole16};
 ghost use Rattle.slots.specs.code.Shape.{Inside};
 ghost use Rattle.slots.specs.Line.{slots};
 ghost use Rattle.tables.specs.Header.{posFormat};
@@ -128,7 +129,7 @@ fn after_set(t: &[u8], k: usize, n: usize, idx: usize, second: usize, glyph: u32
 // The offset of the pair set of a coverage index, 0 where there is none.
 fn set_offset(t: &[u8], k: usize) -> usize
     requires { ⌜ (pairGood (now t) ≡ true) × (posFormat (now t) ≡ 1) ⌝ }
-    ensures { λ r. ⌜ (tableAt (now (t .entry)) r ≡ pairSet (now (t .entry)) k) × (r < 65536) ⌝ }
+    ensures { λ r. ⌜ (tableAt (now (t .entry)) r ≡ pairSet (now (t .entry)) k) × (r < whole16) ⌝ }
 {
     if (read_u16(t, PAIR_SET_COUNT) as usize) <= k {
         return 0;
@@ -163,7 +164,7 @@ fn after_probe(t: &[u8], off: usize, n: usize, idx: usize, second: usize, found:
 // that is cut are misses. The line has n slots.
 fn after_classes(t: &[u8], n: usize, idx: usize, second: usize, c1: u32, c2: u32) -> Plan
     requires { ⌜ (pairGood (now t) ≡ true) × (posFormat (now t) ≡ 2) × (idx < second) × (second < n)
-        × (c1 < 65536) × (c2 < 65536) ⌝ }
+        × (c1 < whole16) × (c2 < whole16) ⌝ }
     ensures { λ r. ⌜ (meant (now (t .entry)) r ≡ afterClasses (now (t .entry)) idx second c1 c2)
         × Sound (now (t .entry)) n idx r ⌝ }
 {

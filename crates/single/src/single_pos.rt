@@ -8,6 +8,7 @@ use tables::header::header_good;
 ghost use mathlib.Core.Bool.{true};
 ghost use mathlib.Core.Path.{_≡_};
 ghost use Prim.Native.Nat.{_<_};
+ghost use Rattle.ints.specs.Limits.{whole16};
 ghost use Rattle.tables.specs.declared.coverage.Covered.the-variants.{Index};
 ghost use Rattle.single.specs.SinglePos.{placeFor, valuePlace, singleGood};
 ghost use Rattle.single.specs.code.Meant.{valuePlaceOf, ValuePlaceSmall};
@@ -49,7 +50,7 @@ pub fn is_good(t: &[u8]) -> bool
 
 // Where the value record of a glyph is, in a subtable that is good.
 pub fn place_for(t: &[u8], glyph: u32) -> ValuePlace
-    requires { ⌜ (glyph < 65536) × (singleGood (now t) ≡ true) ⌝ }
+    requires { ⌜ (glyph < whole16) × (singleGood (now t) ≡ true) ⌝ }
     ensures { λ r. ⌜ (valuePlaceOf r ≡ placeFor (now (t .entry)) glyph) × ValuePlaceSmall r ⌝ }
 {
     let covered = tables::coverage::index_at(t, read_u16(t, COVERAGE_OFFSET) as usize, glyph);

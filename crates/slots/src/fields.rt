@@ -33,8 +33,7 @@ ghost use Rattle.slots.specs.Slot.{chainAt, slotOf, slotSize};
 ghost use Rattle.slots.specs.code.Shape.{Fits, Inside, partShape};
 ghost use Rattle.slots.specs.Line.{slot, slots, update};
 ghost use Rattle.slots.specs.code.Fields.{byteAt, measureAt, swapped};
-ghost use Rattle.slots.specs.Fields.{byteOf, cursiveBit, flagOf, measure, withByte, withChain, withGlyph};
-ghost use Rattle.slots.specs.Fields.{withMeasure};
+ghost use Rattle.slots.specs.Fields.{byteOf, cursiveBit, flagOf, measure, withByte, withChain, withGlyph, withMeasure};
 ghost use Rattle.slots.specs.Parent.{isAttached};
 
 // The fields of one byte.

@@ -6,6 +6,7 @@ use crate::part::child_of;
 use ints::big_endian::read_u16;
 ghost use mathlib.Core.Path.{_≡_};
 ghost use Prim.Native.Nat.{_<_};
+ghost use Rattle.ints.specs.Limits.{whole16};
 ghost use Rattle.tables.specs.AnchorRows.{anchorIn, rowsOf};
 ghost use Rattle.tables.specs.code.Meant.{AnchorNear, anchorPoint};
 
@@ -24,7 +25,7 @@ pub enum Rows {
 
 // The rows of a table with so many columns.
 pub fn rows_of(t: &[u8], columns: usize) -> Rows
-    requires { ⌜ columns < 65536 ⌝ }
+    requires { ⌜ columns < whole16 ⌝ }
     ensures { λ r. ⌜ r ≡ rowsOf (now (t .entry)) columns ⌝ }
 {
     if t.len() < ANCHOR_OFFSETS {
@@ -39,7 +40,7 @@ pub fn rows_of(t: &[u8], columns: usize) -> Rows
 
 // The anchor in a row for a mark class.
 pub fn anchor_in(t: &[u8], rows: usize, columns: usize, row: usize, class: usize) -> Anchor
-    requires { ⌜ (rows < 65536) × (columns < 65536) ⌝ }
+    requires { ⌜ (rows < whole16) × (columns < whole16) ⌝ }
     ensures { λ r. ⌜ (anchorPoint r ≡ anchorIn (now (t .entry)) rows columns row class) × AnchorNear r ⌝ }
 {
     if rows <= row {

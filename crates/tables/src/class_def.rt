@@ -8,6 +8,7 @@ use ints::big_endian::read_u16;
 ghost use mathlib.Core.Bool.{true};
 ghost use mathlib.Core.Path.{_≡_};
 ghost use Prim.Native.Nat.{_<_};
+ghost use Rattle.ints.specs.Limits.{whole16};
 ghost use Rattle.tables.specs.ClassDef.{classAt, classGood, classGoodAt, classOf};
 
 // The field that both formats have.
@@ -42,8 +43,8 @@ pub fn good_at(s: &[u8], off: usize) -> bool
 
 // A glyph's class in the list at an offset that is good.
 pub fn class_at(s: &[u8], off: usize, glyph: u32) -> u32
-    requires { ⌜ (glyph < 65536) × (classGoodAt (now s) off ≡ true) ⌝ }
-    ensures { λ r. ⌜ (r ≡ classAt (now (s .entry)) off glyph) × (r < 65536) ⌝ }
+    requires { ⌜ (glyph < whole16) × (classGoodAt (now s) off ≡ true) ⌝ }
+    ensures { λ r. ⌜ (r ≡ classAt (now (s .entry)) off glyph) × (r < whole16) ⌝ }
 {
     if off == 0 {
         return 0;
@@ -79,7 +80,7 @@ fn good(t: &[u8]) -> bool
 // A glyph's class in a list that is good.
 fn class_of(t: &[u8], glyph: u32) -> u32
     requires { ⌜ classGood (now t) ≡ true ⌝ }
-    ensures { λ r. ⌜ (r ≡ classOf (now (t .entry)) glyph) × (r < 65536) ⌝ }
+    ensures { λ r. ⌜ (r ≡ classOf (now (t .entry)) glyph) × (r < whole16) ⌝ }
 {
     if read_u16(t, CLASS_FORMAT) == 1 {
         let start = read_u16(t, START_GLYPH_ID);

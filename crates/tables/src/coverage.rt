@@ -9,6 +9,7 @@ use ints::big_endian::read_u16;
 ghost use mathlib.Core.Bool.{true};
 ghost use mathlib.Core.Path.{_≡_};
 ghost use Prim.Native.Nat.{_<_};
+ghost use Rattle.ints.specs.Limits.{whole16};
 ghost use Rattle.tables.specs.Coverage.{coverageAt, coverageGood, coverageGoodAt, coverageIndex};
 
 // The fields of the header. The count is glyphCount in format 1 and rangeCount in format 2.
@@ -42,7 +43,7 @@ pub fn good_at(s: &[u8], off: usize) -> bool
 
 // A glyph's index in the table at an offset that is good.
 pub fn index_at(s: &[u8], off: usize, glyph: u32) -> Covered
-    requires { ⌜ (glyph < 65536) × (coverageGoodAt (now s) off ≡ true) ⌝ }
+    requires { ⌜ (glyph < whole16) × (coverageGoodAt (now s) off ≡ true) ⌝ }
     ensures { λ r. ⌜ r ≡ coverageAt (now (s .entry)) off glyph ⌝ }
 {
     if off == 0 {
@@ -77,7 +78,7 @@ fn good(t: &[u8]) -> bool
 
 // A glyph's index in a table that is good.
 fn index_of(t: &[u8], glyph: u32) -> Covered
-    requires { ⌜ (glyph < 65536) × (coverageGood (now t) ≡ true) ⌝ }
+    requires { ⌜ (glyph < whole16) × (coverageGood (now t) ≡ true) ⌝ }
     ensures { λ r. ⌜ r ≡ coverageIndex (now (t .entry)) glyph ⌝ }
 {
     let count = read_u16(t, COUNT) as usize;

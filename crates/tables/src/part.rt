@@ -2,6 +2,7 @@
 use ints::big_endian::read_u16;
 ghost use mathlib.Core.Path.{_≡_};
 ghost use Prim.Native.Nat.{_<_};
+ghost use Rattle.ints.specs.Limits.{whole16};
 ghost use Rattle.tables.specs.Part.{childOf, tableAt};
 ghost use Rattle.tables.specs.code.Meant.{offsetsEnd};
 
@@ -10,7 +11,7 @@ pub const OFFSET_SIZE: usize = 2;
 
 // The table of offset k of the array of `count` offsets at `at`, empty where there is none.
 pub fn child_of<'a>(s: &'a [u8], at: usize, count: usize, k: usize) -> &'a [u8]
-    requires { ⌜ (at < 65536) × (count < offsetsEnd) ⌝ }
+    requires { ⌜ (at < whole16) × (count < offsetsEnd) ⌝ }
     ensures { λ r. ⌜ now r ≡ childOf (now (s .entry)) at count k ⌝ }
 {
     if count <= k {

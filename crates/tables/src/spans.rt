@@ -4,6 +4,7 @@ ghost use mathlib.Core.Bool.{true};
 ghost use mathlib.Core.Path.{_≡_};
 ghost use Prim.Native.Nat.{_+_, _≤_, _<_};
 ghost use lib.ListN.{length};
+ghost use Rattle.ints.specs.Limits.{whole16};
 ghost use Rattle.tables.specs.Spans.{ascends, firstHolding, rangeRecordSize, spanPlace, spans};
 
 // A list starts with its format and its count; the spans follow.
@@ -20,7 +21,7 @@ pub const END_GLYPH_ID: usize = 2;
 // Whether the spans ascend strictly: each starts above the end before it, and not above its own end. A span has
 // `stride` bytes, and its last glyph is `over` bytes after its first.
 pub fn ascending(t: &[u8], stride: usize, over: usize, count: usize) -> bool
-    requires { ⌜ (over + 2 ≤ stride) × (stride ≤ rangeRecordSize) × (count < 65536)
+    requires { ⌜ (over + 2 ≤ stride) × (stride ≤ rangeRecordSize) × (count < whole16)
         × (spanPlace stride count ≤ length (now t)) ⌝ }
     ensures { λ r. ⌜ r ≡ ascends 0 (spans (now (t .entry)) stride over count) ⌝ }
 {
@@ -45,7 +46,7 @@ pub fn ascending(t: &[u8], stride: usize, over: usize, count: usize) -> bool
 
 // The number of the span that holds the glyph, and `count` where none does: by halves.
 pub fn seek(t: &[u8], stride: usize, over: usize, count: usize, glyph: u32) -> usize
-    requires { ⌜ (over + 2 ≤ stride) × (stride ≤ rangeRecordSize) × (count < 65536)
+    requires { ⌜ (over + 2 ≤ stride) × (stride ≤ rangeRecordSize) × (count < whole16)
         × (spanPlace stride count ≤ length (now t)) ⌝ }
     requires { ⌜ ascends 0 (spans (now t) stride over count) ≡ true ⌝ }
     ensures { λ r. ⌜ (r ≡ firstHolding (spans (now (t .entry)) stride over count) glyph) × (r ≤ count) ⌝ }

@@ -32,7 +32,8 @@ use Rattle.ints.proofs.TallyLaws.{tally-same}
 use Rattle.cursive.specs.Chains.{attachedCount, chainTo, reach}
 use Rattle.cursive.specs.CursivePos.{Plan, stop, join, entryOf, afterCovered, afterEntry, afterNeighbour, afterPrevious, indexOf, planOf}
 use Rattle.cursive.specs.Reversal.{reversed, reversedIn, turned}
-use Rattle.cursive.specs.Attachment.{crossed, ended, childAttached, joinedAt, planned, previousJoined, pulled, rightToLeft, sameAs, scaledAt, separatedBy, thisJoined, tied}
+use Rattle.cursive.specs.Attachment.{crossed, ended, childAttached, joinedAt, planned, previousJoined, pulled, rightToLeft, scaledAt, separatedBy, thisJoined, tied}
+use Rattle.ints.specs.Signed.{sameAs}
 use Rattle.cursive.proofs.ReversalLaws.{length-reversed}
 
 -- ---- the plan

@@ -32,7 +32,8 @@ use Rattle.tables.specs.declared.coverage.Covered.{Covered}
 use Rattle.tables.specs.declared.coverage.Covered.the-variants.{Index, Not}
 use Rattle.marks.specs.Anchors.{Anchors, both, missing, empty, anchorsFor, rowTable, afterRows}
 use Rattle.marks.specs.MarkPos.{baseCoverageOffset, baseIndex, markClassCount, markIndex}
-use Rattle.marks.specs.Search.{foundFor, goesOn, isCovered, isFirst, nearest, stopsAt}
+use Rattle.marks.specs.Search.{foundFor, goesOn, isCovered, isFirst, stopsAt}
+use Rattle.ints.specs.Tally.{nearest}
 use Rattle.marks.specs.Walk.{climb, crossOffset, crossOffsetIn}
 use Rattle.marks.specs.Plan.{Plan, stop, endless, hang, fits, planOf, afterAnchors, afterCovered, afterFound, afterSearch, afterWalk}
 use Rattle.marks.specs.Attachment.{anchorDelta, markAttached, planned}

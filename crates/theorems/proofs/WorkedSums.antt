@@ -10,7 +10,7 @@ use Rattle.ints.specs.Saturating.{clamp32, minus}
 use Rattle.ints.specs.Scale.{floorDiv, scaled}
 use Rattle.ints.specs.Signed.{intAt, pattern, signed}
 use Rattle.ints.specs.Sums.{stepwise}
-use Rattle.ints.specs.Tally.{bit, tally}
+use Rattle.ints.specs.Tally.{bit, tally, nearest}
 use Rattle.slots.specs.Axis.{directionOf}
 use Rattle.slots.specs.Checks.{some}
 use Rattle.slots.specs.Fields.{attached, withPlace, withIdentity}
@@ -35,7 +35,7 @@ use Rattle.marks.specs.Component.{componentIndex}
 use Rattle.marks.specs.Anchors.{anchorsFor}
 use Rattle.marks.specs.MarkPos.{baseIndex, markIndex, marksGood}
 use Rattle.marks.specs.Plan.{planOf as markPlan}
-use Rattle.marks.specs.Search.{nearest, stopsAt}
+use Rattle.marks.specs.Search.{stopsAt}
 use Rattle.marks.specs.Walk.{crossOffset, crossOffsetIn}
 use Rattle.marks.specs.declared.mark_pos.Target.the-variants.{Ligature}
 use Rattle.finish.specs.Finish.{finished, takenIn, settled, settledUp, shifted}

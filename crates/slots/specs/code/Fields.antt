@@ -1,7 +1,6 @@
 -- Where in a slot's bytes a field is. Assumes nothing.
 use Prim.Native.Nat.{ℕ, _+_, _*_, _/_, _%_}
-use Rattle.slots.specs.Slot.{ligatureIdAt, componentAt, flagsAt, attachTypeAt, xAdvanceAt, yAdvanceAt, xOffsetAt}
-use Rattle.slots.specs.Slot.{yOffsetAt}
+use Rattle.slots.specs.Slot.{ligatureIdAt, componentAt, flagsAt, attachTypeAt, xAdvanceAt, yAdvanceAt, xOffsetAt, yOffsetAt}
 use Rattle.slots.specs.declared.axis.Axis.{Axis}
 use Rattle.slots.specs.declared.axis.Axis.the-variants.{X, Y}
 use Rattle.slots.specs.declared.fields.ByteField.{ByteField}

@@ -75,11 +75,11 @@ finish-spec =
     (tie.spec
     check-slots-requires
     enum-known-checked
-    same-length
-    returns
     enum-known-checked-2
     direction-of-requires
     finish-line-requires
+    same-length
+    returns
     same-length-2
     returns-2
     same-length-3

@@ -5,7 +5,8 @@ use Prim.Native.Nat.{_≤_}
 use native.Mathlib.Omega.{arith}
 use denote.Ref.{now}
 use Rattle.slots.specs.Line.{slots}
-use Rattle.marks.specs.Search.{foundFor, nearest, stopsAt}
+use Rattle.marks.specs.Search.{foundFor, stopsAt}
+use Rattle.ints.specs.Tally.{nearest}
 use Rattle.marks.proofs.SearchLaws.{nearest-none, nearest-turn}
 use borrow.Author.Needs.{needs}
 use Rattle.marks.proofs.search.find.Statement.{statement}
