@@ -2,8 +2,8 @@
  *
  * Link with libgpos_c.a, which `rt staticlib gpos_c` writes to target/staticlib/. It is for x86-64 Linux, allocates
  * nothing, keeps no state, calls nothing and may be used from any number of threads at once. Of stack, with slots of
- * either size, gpos_cursive takes up to 82,232 bytes, for an old chain through a whole line (80 a slot), gpos_finish up
- * to 4,176; the other calls took up to 480 where they were measured, one call of each, applied or done.
+ * either size, gpos_cursive takes up to 82,248 bytes, for an old chain through a whole line (80 a slot), gpos_finish up
+ * to 4,176; the other calls took up to 464 where they were measured, one call of each, applied or done.
  *
  * A label is a LINE: up to 1,024 glyph slots, one after the other, in memory that you lend for the call. All its slots
  * have 24 bytes, or all have 28, of which the last four are a cluster. You must name the size in every call but a move,

@@ -1,4 +1,4 @@
-//! The C face, as include/gpos.h declares it.
+//! The functions for C, as include/gpos.h declares it.
 
 #[repr(C)]
 #[derive(Clone, Copy)]

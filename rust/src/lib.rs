@@ -30,7 +30,7 @@
 //! ```
 //!
 //! The work is done by `libgpos_c.a`, which is proved to end, to stay inside what it is lent, and to answer and write exactly what its contracts say. This package
-//! is a thin safe face of it, in Rust's own types, and not proved itself. The library is for x86-64 Linux, so a program or a test links only there; `cargo check` and
+//! is a thin safe wrapper of it, in Rust's own types, and not proved itself. The library is for x86-64 Linux, so a program or a test links only there; `cargo check` and
 //! `cargo doc` work anywhere.
 #![warn(missing_docs)]
 
@@ -134,7 +134,7 @@ pub enum HazardKind {
     UnsafeToConcat,
 }
 
-/// Glyphs that lean on each other. The range is as the lookup names it: it may reach past the line's end, and with a bound for a missing glyph it may be empty or
+/// Glyphs that depend on each other. The range is as the lookup names it: it may reach past the line's end, and with a bound for a missing glyph it may be empty or
 /// even have its end before its start, so don't slice by it unchecked.
 #[derive(Clone, Debug, PartialEq, Eq)]
 #[allow(missing_docs)]

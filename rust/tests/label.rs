@@ -37,7 +37,7 @@ fn hazard(kind: HazardKind, range: std::ops::Range<usize>) -> Option<Hazard> {
     Some(Hazard { kind, range })
 }
 
-/// A base, and two marks attached to it.
+/// A base, a mark on it, and a mark on that mark.
 fn label(form: Form) -> Vec<u8> {
     let mark = Slot { glyph: 501, flags: Slot::MARK, attach_type: Slot::TYPE_MARK, chain: -1, x_offset: 250, y_offset: 40, ..Slot::default() };
     line_in(form, &[glyph(36), mark, Slot { x_offset: 10, y_offset: 700, ..mark }])

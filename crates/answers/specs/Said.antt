@@ -17,7 +17,7 @@ use Rattle.answers.specs.declared.Moved.the-variants.{Done as MovedNow, 
 use Rattle.answers.specs.declared.Done.{Done}
 use Rattle.answers.specs.declared.Done.the-variants.{Done as DoneNow, Refused as NotDone}
 
--- a hazard: "break" or "concat", from a start up to an end, which is not included
+-- a hazard: unsafe to break, or unsafe to concatenate, from a start up to an end, which is not included
 pub data Range : Type 0 where
   unsafeToBreak : (start end : ℕ) → Range
   unsafeToConcat : (start end : ℕ) → Range
@@ -40,13 +40,16 @@ refusalNumber Index = 5
 refusalNumber Subtable = 6
 refusalNumber Endless = 7
 
+-- the hazard of a kind
 abbrev pub rangeOf : HazardKind → ℕ → ℕ → Range
 rangeOf UnsafeToBreak s e = unsafeToBreak s e
 rangeOf UnsafeToConcat s e = unsafeToConcat s e
 
+-- what code's hazard says
 abbrev pub range : Hazard → Range
 range h = rangeOf (h .kind) (h .start) (h .end)
 
+-- what code's hazards say, in order
 abbrev pub ranges : Hazards → List Range
 ranges None = []
 ranges (One h) = range h ∷ []
@@ -64,6 +67,7 @@ saidMoved MovedNow = done
 saidMoved (NotMoved r) = refused (refusalNumber r)
 saidMoved Unfit = refused 10
 
+-- what starting and finishing say
 abbrev pub saidDone : Done → Said
 saidDone DoneNow = done
 saidDone (NotDone r) = refused (refusalNumber r)

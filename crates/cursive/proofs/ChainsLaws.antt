@@ -87,9 +87,9 @@ back-other v r lt ne h e =
     (is ∙ sym (reach-near (negℤ (val v)) m), rw is m)
 
 -- ---- offset, chain and type set one after the other hang the slot
-pub hung-by : (i kind : ℕ) (c : ℤ) (a : Axis) (z : ℤ) (ss : List Slot) {ss₁ ss₂ ss₃ : List Slot} → i < length ss → ss₁ ≡ update i (withMeasure Offset a z) ss
+pub attached-by : (i kind : ℕ) (c : ℤ) (a : Axis) (z : ℤ) (ss : List Slot) {ss₁ ss₂ ss₃ : List Slot} → i < length ss → ss₁ ≡ update i (withMeasure Offset a z) ss
     → ss₂ ≡ update i (withChain c) ss₁ → ss₃ ≡ update i (withByte AttachType kind) ss₂ → ss₃ ≡ update i (λ s. attached kind c (withMeasure Offset a z s)) ss
-hung-by i kind c a z ss lt first second third =
+attached-by i kind c a z ss lt first second third =
     update-both i (λ s. withChain c (withMeasure Offset a z s)) ss (withByte AttachType kind) lt
     (update-both i (withMeasure Offset a z) ss (withChain c) lt first second)
     third

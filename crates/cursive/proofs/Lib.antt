@@ -2,7 +2,7 @@ pub mod CursivePosLaws
 pub mod ChainsLaws
 pub mod ReversalLaws
 pub mod AttachmentLaws
-pub mod DecisionLaws
+pub mod PlanLaws
 pub mod Sound
 pub mod Examples
 pub mod HazardLaws

@@ -54,8 +54,8 @@ entryOf t k = recordAnchor t k 0
 abbrev pub exitOf : List ℕ → ℕ → Option Point
 exitOf t k = recordAnchor t k 1
 
--- what is to be done: nothing, with the hazard to report; or the previous slot, by its exit anchor, and this slot, by
--- its entry anchor, are to be joined
+-- what is to be done: nothing, with the hazard to report, if any; or the previous slot, by its exit anchor, and this
+-- slot, by its entry anchor, are to be joined
 pub data Plan : Type 0 where
   stop : (hazards : List Range) → Plan
   join : (previous : ℕ) (exit entry : Point) → Plan

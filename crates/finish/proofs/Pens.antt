@@ -41,7 +41,7 @@ abbrev exactBy : Bool → ℤ → ℤ → ℤ
 exactBy true z s = z -ℤ s
 exactBy false z s = z +ℤ s
 
--- a sum s that leads from pen place p to q, put to z, adds q - p
+-- a sum s that leads from pen place p to q, added to z, adds q - p
 down-by : (b : Bool) (z p q s : ℤ) → exactBy b p s ≡ q → exactBy b z s ≡ z +ℤ (q -ℤ p)
 down-by true z p q s e = omega (omegaℤ, bal-add z (negℤ s), bal-neg s, bal-add z (q -ℤ p), bal-add q (negℤ p), bal-neg p, bal-add p (negℤ s))
 down-by false z p q s e = omega (omegaℤ, bal-add z s, bal-add z (q -ℤ p), bal-add q (negℤ p), bal-neg p, bal-add p s)
@@ -50,7 +50,7 @@ down-by false z p q s e = omega (omegaℤ, bal-add z s, bal-add z (q -ℤ p), ba
 undone : (p q s : ℤ) → p ≡ q +ℤ s → p -ℤ s ≡ q
 undone p q s e = omega (omegaℤ, bal-add p (negℤ s), bal-neg s, bal-add q s)
 
--- the advances between a slot and its parent, put to the slot's pen place, give the parent's
+-- the advances between a slot and its parent, added to the slot's pen place, give the parent's
 leads : (zs : List ℤ) (i j : ℕ) → i < length zs → j < length zs → (f : Bool) → exactBy (subtracts (ltb j i) f) (penOf f zs i) (total (between f zs i j)) ≡ penOf f zs j
 unfolding penOf
 leads zs i j hi hj f = go (decLt j i)
@@ -98,7 +98,7 @@ module _ (b : ℕ) (zs : List ℤ) (near : Near b zs) where
       steps-exact true f = let more = mul-le-mul-left b (short-between f) in less-all-exact b z (between f zs i j) (near-between f) (omega arith)
       steps-exact false f = let more = mul-le-mul-left b (short-between f) in plus-all-exact b z (between f zs i j) (near-between f) (omega arith)
 
-      -- z with the advances between put to it has gone from the slot's pen place to the parent's
+      -- z with the advances between added has gone from the slot's pen place to the parent's
       pub walk-exact : (f : Bool) → stepwise (stepBy (subtracts (ltb j i) f)) z (between f zs i j) ≡ z +ℤ (penOf f zs j -ℤ penOf f zs i)
       walk-exact f =
           steps-exact (subtracts (ltb j i) f) f

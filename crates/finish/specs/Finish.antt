@@ -54,6 +54,7 @@ pub data AttachKind : Type 0 where
   cursive : AttachKind
   neither : AttachKind
 
+-- the kind of a type byte
 abbrev pub attachKind : ℕ → AttachKind
 attachKind zero = neither
 attachKind (suc zero) = mark
@@ -65,15 +66,15 @@ abbrev pub isMain : Direction → Axis → Bool
 isMain d a = sameAxis (main d) a
 
 -- The new offset on an axis, from the own one and the parent's. Along the line a mark takes the parent's offset in,
--- then the advances between; across it the advances alone, since what its base hangs on was added when the mark was
--- attached (marks/specs/Attachment): older HarfBuzz, which didn't add it there, adds it here. A cursive glyph takes the
--- parent's offset in, across the line only.
+-- then the advances between; across it the advances alone, since the cross offsets of its base and of the base's
+-- cursive parents were added when the mark was attached (marks/specs/Attachment): older HarfBuzz, which didn't add it
+-- there, adds it here. A cursive glyph takes the parent's offset in, across the line only.
 abbrev pub newOffsetBy : AttachKind → Bool → (ℤ → ℤ) → ℤ → ℤ → ℤ
-newOffsetBy mark true walk own parents = walk (satAdd own parents)
-newOffsetBy mark false walk own parents = walk own
-newOffsetBy cursive true walk own parents = own
-newOffsetBy cursive false walk own parents = satAdd own parents
-newOffsetBy neither main? walk own parents = own
+newOffsetBy mark true shift own parents = shift (satAdd own parents)
+newOffsetBy mark false shift own parents = shift own
+newOffsetBy cursive true shift own parents = own
+newOffsetBy cursive false shift own parents = satAdd own parents
+newOffsetBy neither main? shift own parents = own
 
 -- slot i's offset on an axis, once it has taken its parent j in
 abbrev pub newOffset : Direction → List Slot → ℕ → ℕ → Axis → ℤ

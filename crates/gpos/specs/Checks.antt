@@ -4,7 +4,7 @@ use mathlib.Core.Bool.{Bool, _||_}
 use mathlib.Core.List.{List, [], _∷_, _++_}
 use Prim.Native.Nat.{ℕ}
 use lib.Dec.{ltb}
-use Rattle.ints.specs.Scale.{leastUpem, mostSize, mostUpem}
+use Rattle.ints.specs.Scale.{leastUpem, mostS, mostUpem}
 use Rattle.slots.specs.Axis.{directionOf}
 use Rattle.slots.specs.Checks.{badSlots}
 use Rattle.slots.specs.Slot.{Slot}
@@ -14,7 +14,7 @@ use Rattle.answers.specs.Said.{unless}
 
 -- s or u not in its range
 abbrev pub badScale : ℕ → ℕ → Bool
-badScale s u = ltb s 1 || (ltb mostSize s || (ltb u leastUpem || ltb mostUpem u))
+badScale s u = ltb s 1 || (ltb mostS s || (ltb u leastUpem || ltb mostUpem u))
 
 -- refusals 2 to 4: the direction, a number out of its range, a slot out of range
 abbrev pub slotTests : List Slot → ℕ → Bool → List (Bool × ℕ)

@@ -12,13 +12,13 @@ use Rattle.gpos.specs.Checks.{slotTests}
 
 -- refusals 2 to 4, a nesting limit above 64 among them; else done, and the slots are finished
 abbrev pub finish : ℕ → ℕ → Bool → Call
-finish direction limit flag =
+finish direction limit attachments =
     record {
       says = λ ss. unless (slotTests ss direction (ltb 64 limit)) done;
-      leaves = finished
-          (directionOf direction) limit flag;
+      leaves = finished (directionOf direction) limit attachments;
     }
 
 -- finishing the line l, of slots of z bytes, answered r and left l′
-abbrev pub FinishCall : (z : ℕ) (l : List ℕ) (direction limit : ℕ) (flag : Bool) (r : Done) (l′ : List ℕ) → Type 0
-FinishCall z l direction limit flag r l′ = Made (finish direction limit flag) z l (saidDone r) l′
+abbrev pub FinishCall : (z : ℕ) (l : List ℕ) (direction limit : ℕ) (attachments : Bool) (r : Done) (l′ : List ℕ)
+    → Type 0
+FinishCall z l direction limit attachments r l′ = Made (finish direction limit attachments) z l (saidDone r) l′

@@ -1,7 +1,7 @@
 // The checks that calls share, each made once, in the order of document 01's table: refusals 1 to 4.
 use answers::Refusal;
 use ints::scale::LEAST_UPEM;
-use ints::scale::MOST_SIZE;
+use ints::scale::MOST_S;
 use ints::scale::MOST_UPEM;
 use slots::shape::Cut;
 use slots::shape::Shape;
@@ -23,7 +23,7 @@ fn is_bad_scale(s: u32, u: u32) -> bool
     if s < 1 {
         return true;
     }
-    if MOST_SIZE < s {
+    if MOST_S < s {
         return true;
     }
     if u < LEAST_UPEM {

@@ -2,7 +2,7 @@
 use crate::checks::Checked;
 use crate::checks::check_call;
 use crate::neighbours::Beside;
-use crate::neighbours::is_misplaced;
+use crate::neighbours::is_bad_place;
 use answers::Answer;
 use answers::Neighbour;
 use answers::Refusal;
@@ -29,7 +29,7 @@ pub fn cursive(
     match checked {
         Checked::Refused(r) => return Answer::Refused(r),
         Checked::Slots(shape) => {
-            if is_misplaced(shape.count, index, Beside::Previous(previous)) {
+            if is_bad_place(shape.count, index, Beside::Previous(previous)) {
                 return Answer::Refused(Refusal::Index);
             }
             if cursive::cursive_pos::is_good(subtable) {

@@ -2,7 +2,7 @@
 use crate::checks::Checked;
 use crate::checks::check_call;
 use crate::neighbours::Beside;
-use crate::neighbours::is_misplaced;
+use crate::neighbours::is_bad_place;
 use answers::Answer;
 use answers::Refusal;
 use marks::mark_pos::Target;
@@ -10,7 +10,7 @@ use slots::axis::direction_of;
 ghost use Rattle.marks.specs.declared.mark_pos.Target.the-variants.{Base, Ligature};
 ghost use Rattle.gpos.specs.MarkPos.{MarkCall};
 
-// One call for both kinds.
+// One call for both targets.
 fn mark(
     line: &mut [u8],
     size: usize,
@@ -28,7 +28,7 @@ fn mark(
     match checked {
         Checked::Refused(r) => return Answer::Refused(r),
         Checked::Slots(shape) => {
-            if is_misplaced(shape.count, index, Beside::Nothing) {
+            if is_bad_place(shape.count, index, Beside::Nothing) {
                 return Answer::Refused(Refusal::Index);
             }
             if marks::mark_pos::is_good(subtable) {
@@ -65,8 +65,8 @@ pub fn mark_base(
     mark(line, size, subtable, Target::Base, direction, s, u, index)
 }
 
-// Attaches the mark in slot `index` to a component of the nearest ligature before it, by a MarkLigPos subtable.
-// Refusals 1 to 7.
+// Attaches the mark in slot `index` to a component of the nearest ligature before it, by a MarkLigPos subtable. The
+// caller clears the seen bit on marks. Refusals 1 to 7.
 pub fn mark_ligature(
     line: &mut [u8],
     size: usize,

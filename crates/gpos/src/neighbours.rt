@@ -39,7 +39,7 @@ fn is_bad_before(n: usize, index: usize, previous: Neighbour) -> bool
 }
 
 // Is the index not in the line, or what is beside it bad?
-pub fn is_misplaced(n: usize, index: usize, beside: Beside) -> bool
+pub fn is_bad_place(n: usize, index: usize, beside: Beside) -> bool
     ensures { λ r. ⌜ r ≡ badPlace n index beside ⌝ }
 {
     if n <= index {

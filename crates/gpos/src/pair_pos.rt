@@ -2,7 +2,7 @@
 use crate::checks::Checked;
 use crate::checks::check_call;
 use crate::neighbours::Beside;
-use crate::neighbours::is_misplaced;
+use crate::neighbours::is_bad_place;
 use answers::Answer;
 use answers::Neighbour;
 use answers::Refusal;
@@ -28,7 +28,7 @@ pub fn pair(
     match checked {
         Checked::Refused(r) => return Answer::Refused(r),
         Checked::Slots(shape) => {
-            if is_misplaced(shape.count, index, Beside::Second(second)) {
+            if is_bad_place(shape.count, index, Beside::Second(second)) {
                 return Answer::Refused(Refusal::Index);
             }
             if pair::pair_pos::is_good(subtable) {

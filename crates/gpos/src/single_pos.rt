@@ -2,7 +2,7 @@
 use crate::checks::Checked;
 use crate::checks::check_call;
 use crate::neighbours::Beside;
-use crate::neighbours::is_misplaced;
+use crate::neighbours::is_bad_place;
 use answers::Answer;
 use answers::Refusal;
 use slots::axis::direction_of;
@@ -25,7 +25,7 @@ pub fn single(
     match checked {
         Checked::Refused(r) => return Answer::Refused(r),
         Checked::Slots(shape) => {
-            if is_misplaced(shape.count, index, Beside::Nothing) {
+            if is_bad_place(shape.count, index, Beside::Nothing) {
                 return Answer::Refused(Refusal::Index);
             }
             if single::single_pos::is_good(subtable) {

@@ -38,8 +38,8 @@ module _ (z : ℕ) (l t : List ℕ) (direction s u i : ℕ) where
   cursive-unique missing previous flag =
       laid-unique toC (CursiveCall z l t direction s u i (neighbour missing previous) flag) (gpos.cursive-unique z l t direction s u i (neighbour missing previous) flag)
 
-  pub mark-unique : (kind : Target) → Unique (λ r (l′ : List ℕ). IsLayoutOf toC (λ a. MarkCall kind z l t direction s u i a l′) r)
-  mark-unique kind = laid-unique toC (MarkCall kind z l t direction s u i) (gpos.mark-unique z l t direction s u i kind)
+  pub mark-unique : (target : Target) → Unique (λ r (l′ : List ℕ). IsLayoutOf toC (λ a. MarkCall target z l t direction s u i a l′) r)
+  mark-unique target = laid-unique toC (MarkCall target z l t direction s u i) (gpos.mark-unique z l t direction s u i target)
 
 module _ (l t : List ℕ) where
   pub to-clusters-unique : Unique (λ (r : ℕ) (t′ : List ℕ). IsLayoutOf movedNumber (λ m. ToClustersCall l t m t′) r)

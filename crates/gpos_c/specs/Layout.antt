@@ -62,7 +62,7 @@ abbrev pub flag : Bool → ℕ
 flag true = 1
 flag false = 0
 
--- an answer by its status, the number of its refusal, whether it attached, the next place and its hazards
+-- an answer by its status, the number of its refusal, whether it attached, the next index and its hazards
 abbrev pub laid : ℕ → ℕ → ℕ → ℕ → Hazards → CAnswer
 laid s r a n hs =
     record { status = s; refusal = r; attached = a; hazards = listOf hs .count; next = n; hazard = listOf hs .hazard }

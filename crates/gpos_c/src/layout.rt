@@ -8,7 +8,8 @@ use answers::Moved;
 use answers::Neighbour;
 use answers::refusal_number;
 ghost use mathlib.Core.Path.{_≡_};
-ghost use Rattle.gpos_c.specs.Layout.{doneNumber, flag, toC, hazardOf, hazardKindNumber, listOf, movedNumber, neighbour, set, laid as Layout·laid};
+ghost use Rattle.gpos_c.specs.Layout.{doneNumber, flag, toC, hazardOf, hazardKindNumber, listOf, movedNumber};
+ghost use Rattle.gpos_c.specs.Layout.{neighbour, set, laid as Layout·laid};
 
 #[repr(C)]
 pub struct CHazard {

@@ -3,8 +3,8 @@ use Prim.Native.Nat.{ℕ, _*_, _/_}
 use lib.IntN.{ℤ, pos, negsuc, _+ℤ_, _*ℤ_}
 
 -- s is from 1 to 32,768, u from 16 to 16,384
-abbrev pub mostSize : ℕ
-mostSize = 32768
+abbrev pub mostS : ℕ
+mostS = 32768
 
 abbrev pub leastUpem : ℕ
 leastUpem = 16

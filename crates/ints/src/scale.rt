@@ -13,7 +13,7 @@ ghost use Rattle.ints.specs.code.Scale.{InScale, mostScaled};
 ghost use Rattle.ints.specs.Scale.{scaled};
 
 // s is from 1 to 32,768, u from 16 to 16,384.
-pub const MOST_SIZE: u32 = 32768;
+pub const MOST_S: u32 = 32768;
 
 pub const LEAST_UPEM: u32 = 16;
 

@@ -38,12 +38,12 @@ module _ (idx b : ℕ) (back : b < idx) (near : idx - b ≤ 32768) where
 
 -- what code writes to the mark's slot, in its order, hangs it
 module _ (s u : ℕ) (d : Direction) (idx b : ℕ) (base mark : Point) (walk : ℤ) (ss : List Slot) (l : idx < length ss) where
-  pub hung-by : (along across : Axis) (x y z chain : ℤ) (ss₁ ss₂ ss₃ ss₄ : List Slot) → along ≡ main d → across ≡ cross d
+  pub attached-by : (along across : Axis) (x y z chain : ℤ) (ss₁ ss₂ ss₃ ss₄ : List Slot) → along ≡ main d → across ≡ cross d
       → x ≡ anchorDelta s u along base mark → y ≡ anchorDelta s u across base mark → z ≡ satAdd y walk → chain ≡ pos b -ℤ pos idx
       → ss₁ ≡ update idx (withMeasure Offset along x) ss → ss₂ ≡ update idx (withMeasure Offset across z) ss₁
       → ss₃ ≡ update idx (withChain chain) ss₂ → ss₄ ≡ update idx (withByte AttachType 1) ss₃
       → ss₄ ≡ update idx (markAttached s u d idx b base mark walk) ss
-  hung-by along across x y z chain ss₁ ss₂ ss₃ ss₄ is-along is-across is-x is-y is-z is-chain e₁ e₂ e₃ e₄ =
+  attached-by along across x y z chain ss₁ ss₂ ss₃ ss₄ is-along is-across is-x is-y is-z is-chain e₁ e₂ e₃ e₄ =
       let x′ : x ≡ anchorDelta s u (main d) base mark = is-x ∙ ap (λ (a : Axis). anchorDelta s u a base mark) is-along in
       let y′ : y ≡ anchorDelta s u (cross d) base mark = is-y ∙ ap (λ (a : Axis). anchorDelta s u a base mark) is-across in
       let z′ : z ≡ satAdd (anchorDelta s u (cross d) base mark) walk = is-z ∙ ap (λ (v : ℤ). satAdd v walk) y′ in
@@ -64,6 +64,6 @@ module _ (s u : ℕ) (d : Direction) (idx : ℕ) {plan : Plan} {ss : List Slot} 
         → Effect ss (planSaid idx plan) (planned s u d idx plan ss) r ss′
     effect-far h is-r is-ss = rw (← e, lt-leb (idx - b) 32768 h) (record { answer = is-r; slots-are = is-ss })
 
-    pub effect-hung : idx - b ≤ 32768 → r ≡ applied (idx + 1) (unsafeToBreak b (idx + 1) ∷ []) true → ss′ ≡ update idx (markAttached s u d idx b base mark walk) ss
+    pub effect-attached : idx - b ≤ 32768 → r ≡ applied (idx + 1) (unsafeToBreak b (idx + 1) ∷ []) true → ss′ ≡ update idx (markAttached s u d idx b base mark walk) ss
         → Effect ss (planSaid idx plan) (planned s u d idx plan ss) r ss′
-    effect-hung h is-r is-ss = rw (← e, le-leb (idx - b) 32768 h) (record { answer = is-r; slots-are = is-ss })
+    effect-attached h is-r is-ss = rw (← e, le-leb (idx - b) 32768 h) (record { answer = is-r; slots-are = is-ss })

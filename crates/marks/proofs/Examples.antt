@@ -79,8 +79,8 @@ abbrev subtable : ℕ → List ℕ
 subtable off =
     words (1 ∷ 12 ∷ 18 ∷ 1 ∷ 24 ∷ 36 ∷ 1 ∷ 1 ∷ 9 ∷ 1 ∷ 1 ∷ 5 ∷ 1 ∷ 0 ∷ 6 ∷ 1 ∷ 10 ∷ 20 ∷ 1 ∷ off ∷ 1 ∷ 100 ∷ 200 ∷ [])
 
-abbrev spot : ℤ → ℤ → Point
-spot x y = record { x = x; y = y }
+abbrev point : ℤ → ℤ → Point
+point x y = record { x = x; y = y }
 
 pub record Worked : Type 0 where
   -- three components: with other ids, and with ids that are 0, the last
@@ -103,7 +103,7 @@ pub record Worked : Type 0 where
   pub stops : (map (stopsAt Base (subtable 4) plain) (0 ∷ 1 ∷ []) ≡ (true ∷ false ∷ [])) × (stopsAt Base (subtable 4) broken 1 ≡ false)
   pub stops-covered : stopsAt Ligature (subtable 4) (part 0 0 ∷ glyphAt 5 4 1 5 0 (pos 0) (pos 0) ∷ []) 1 ≡ true
   -- the subtable is good; the mark attaches to slot 0, the base that is seen
-  pub attaches : (marksGood (subtable 4) ≡ true) × (planOf Base Y (subtable 4) plain 2 ≡ hang 0 (spot (pos 100) (pos 200)) (spot (pos 10) (pos 20)) (pos 30))
+  pub attaches : (marksGood (subtable 4) ≡ true) × (planOf Base Y (subtable 4) plain 2 ≡ hang 0 (point (pos 100) (pos 200)) (point (pos 10) (pos 20)) (pos 30))
   -- both anchors found, the walk never ends: refusal 7; without the base's anchor a decline, without hazard
   pub refused-7 : (planOf Base Y (subtable 4) loop 2 ≡ endless) × (planSaid 2 (planOf Base Y (subtable 4) loop 2) ≡ refused 7)
   pub no-anchor : planSaid 2 (planOf Base Y (subtable 0) loop 2) ≡ declined []
@@ -111,10 +111,10 @@ pub record Worked : Type 0 where
   pub none-found : planOf Base Y (subtable 4) (glyphAt 5 0 0 0 0 (pos 0) (pos 0) ∷ glyphAt 9 0 0 2 0 (pos 0) (pos 0) ∷ []) 1 ≡ stop (unsafeToConcat 0 2 ∷ [])
   pub uncovered : planOf Base Y (subtable 4) (part 0 0 ∷ part 0 0 ∷ part 0 0 ∷ []) 2 ≡ stop (unsafeToConcat 1 3 ∷ [])
   -- attached, left to right: base anchor less mark anchor, scaled once, and across the line the base's walk
-  pub across-y : slot (planned 500 1000 LeftToRight 2 (hang 0 (spot (pos 100) (pos 205)) (spot (pos 10) (pos 20)) (pos 30)) plain) 2
+  pub across-y : slot (planned 500 1000 LeftToRight 2 (hang 0 (point (pos 100) (pos 205)) (point (pos 10) (pos 20)) (pos 30)) plain) 2
       ≡ record { glyph = 9; ligatureId = 0; component = 0; flags = 2; attachType = 1; chain = negsuc 1; xAdvance = pos 600; yAdvance = pos 0; xOffset = pos 45; yOffset = pos 123; cluster = 0 }
   -- top to bottom the walk goes to x
-  pub across-x : slot (planned 500 1000 TopToBottom 2 (hang 0 (spot (pos 100) (pos 205)) (spot (pos 10) (pos 20)) (pos 30)) plain) 2
+  pub across-x : slot (planned 500 1000 TopToBottom 2 (hang 0 (point (pos 100) (pos 205)) (point (pos 10) (pos 20)) (pos 30)) plain) 2
       ≡ record { glyph = 9; ligatureId = 0; component = 0; flags = 2; attachType = 1; chain = negsuc 1; xAdvance = pos 600; yAdvance = pos 0; xOffset = pos 75; yOffset = pos 93; cluster = 0 }
   pub passes : planSaid 2 (planOf Base Y (subtable 4) plain 2) ≡ applied 3 (unsafeToBreak 0 3 ∷ []) true
 
@@ -158,7 +158,7 @@ abbrev onto : List ℕ → ℕ → ℕ → Plan
 onto t i c = planOf Ligature Y t (glyphAt 5 i 0 1 0 (pos 0) (pos 0) ∷ glyphAt 9 4 c 2 0 (pos 0) (pos 0) ∷ []) 1
 
 abbrev at : ℕ → Plan
-at x = hang 0 (spot (pos x) (pos 0)) (spot (pos 10) (pos 20)) (pos 0)
+at x = hang 0 (point (pos x) (pos 0)) (point (pos 10) (pos 20)) (pos 0)
 
 -- the plan for the mark alone, by coverages at these offsets: at 12 that of the mark, at 18 one that is empty
 abbrev alone : ℕ → ℕ → Plan

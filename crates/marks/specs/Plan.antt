@@ -20,8 +20,8 @@ use Rattle.marks.specs.Search.{foundFor}
 use Rattle.marks.specs.Walk.{crossOffset}
 use Rattle.marks.specs.declared.mark_pos.Target.{Target}
 
--- nothing, with the hazard to report; refused, since the walk never ends; or the mark is to hang on slot b, by the
--- base's anchor and its own, with b's walk
+-- nothing, with the hazard to report, if any; refused, since the walk never ends; or the mark is to hang on slot b, by
+-- the base's anchor and its own, with b's walk
 pub data Plan : Type 0 where
   stop : (hazards : List Range) → Plan
   endless : Plan
@@ -32,7 +32,7 @@ abbrev pub afterWalk : ℕ → Point → Point → Option ℤ → Plan
 afterWalk b base mark (some walk) = hang b base mark walk
 afterWalk b base mark none = endless
 
--- once the anchors are known; a ligature without components might have been another
+-- once the anchors are known; in place of a ligature without components another glyph might have had an anchor
 abbrev pub afterAnchors : Axis → List Slot → ℕ → ℕ → Anchors → Plan
 afterAnchors a ss idx b (both base mark) = afterWalk b base mark (crossOffset a ss b)
 afterAnchors a ss idx b missing = stop []

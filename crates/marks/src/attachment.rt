@@ -37,7 +37,7 @@ ghost use Rattle.marks.specs.code.Meant.{InReach};
 // 2^32: -n is stored as 2^32 - n.
 const TWO_TO_32: usize = 4294967296;
 
-// The core: decides what is to be done for the mark in slot idx, and hangs it, or leaves the line as it was. Whatever a
+// The core: makes the plan for the mark in slot idx, and hangs it, or leaves the line as it was. Whatever a
 // public call refuses, but for refusal 7, has been refused before. A mark whose base is too far for a chain loses the
 // chain it had and is passed, as in HarfBuzz; in a line of 1,024 slots none is.
 pub fn apply(

@@ -13,7 +13,8 @@ use Rattle.tables.specs.declared.coverage.Covered.the-variants.{Index, Not}
 use Rattle.answers.specs.Said.{Range, unsafeToConcat}
 use Rattle.answers.specs.declared.Neighbour.{Neighbour}
 use Rattle.answers.specs.declared.Neighbour.the-variants.{Named, Missing}
-use Rattle.pair.specs.PairPos.{class1Count, class2Count, classRecord, firstClass, firstIndex, secondClass, pairLength, pairSet, pairValueRecordSize}
+use Rattle.pair.specs.PairPos.{class1Count, class2Count, classRecord, firstClass, firstIndex, secondClass}
+use Rattle.pair.specs.PairPos.{pairLength, pairSet, pairValueRecordSize}
 use Rattle.pair.specs.PairSet.{pairValueRecords, probe, secondGlyphSize}
 use Rattle.pair.specs.declared.pair_set.Probe.{Probe}
 use Rattle.pair.specs.declared.pair_set.Probe.the-variants.{Found, Nothing, Cut}

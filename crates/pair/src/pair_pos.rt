@@ -10,7 +10,8 @@ ghost use mathlib.Core.Path.{_≡_};
 ghost use Prim.Native.Nat.{_≤_, _<_};
 ghost use Rattle.ints.specs.Limits.{whole16};
 ghost use Rattle.tables.specs.Header.{headerGood};
-ghost use Rattle.pair.specs.PairPos.{classesGood, firstIndex, pairGood, pairLength, class1Records, pairSetOffsets};
+ghost use Rattle.pair.specs.PairPos.{classesGood, firstIndex, pairGood, pairLength, class1Records};
+ghost use Rattle.pair.specs.PairPos.{pairSetOffsets};
 
 // The fields of the header that both formats have after those of every subtable.
 pub const VALUE_FORMAT1: usize = 4;

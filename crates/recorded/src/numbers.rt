@@ -6,7 +6,8 @@ ghost use mathlib.Core.Path.{_≡_};
 ghost use Prim.Native.Nat.{_+_, _<_, _≤_};
 ghost use lib.ListN.{length};
 ghost use Rattle.ints.specs.BigEndian.{natAt};
-ghost use Rattle.recorded.specs.Recorded.{afterwards, callOf, hasTarget, numberAt, numbersOf, recordedAnswer, recordedHazard};
+ghost use Rattle.recorded.specs.Recorded.{afterwards, callOf, hasTarget, numberAt, numbersOf, recordedAnswer};
+ghost use Rattle.recorded.specs.Recorded.{recordedHazard};
 
 // What a call is made with; of the line and the subtable, how many bytes they have. A move has a target in place of the
 // subtable.

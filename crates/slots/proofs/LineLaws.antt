@@ -102,7 +102,7 @@ length-slots w l = length-slotsN (w .size) (w .count) l
 fits : (w : Shape) (l : List ℕ) → slotSize ≤ w .size → length l ≡ w .count * w .size → Fits w l
 fits w l h e = record { wide = h; whole = e; few = omega (arith, mul-le-mul-left (w .count) h) }
 
--- a line that isn't misshapen has slots of a known size, and its shape
+-- a line that isn't bad has slots of a known size, and its shape
 pub known-size : (z : ℕ) (l : List ℕ) → badLine z l ≡ false → known z ≡ true
 known-size z l e = not-false (known z) (or-false (not (known z)) (badLength z (length l)) e .0)
 

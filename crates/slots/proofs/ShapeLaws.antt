@@ -28,8 +28,8 @@ module _ (z n : ℕ) where
   pub cut-long : mostSlots * z < n → Bad ≡ cut z n
   cut-long h = rw (lt-ltb (mostSlots * z) n h, or-true (not (eqb (n % z) 0)))
 
-  pub cut-uneven : (n / z * z ≡ n → ⊥) → Bad ≡ cut z n
-  cut-uneven h = rw (ne-eqb (n % z) 0 (λ e. h (omega (arith, div-add-mod' n z))))
+  pub cut-bad : (n / z * z ≡ n → ⊥) → Bad ≡ cut z n
+  cut-bad h = rw (ne-eqb (n % z) 0 (λ e. h (omega (arith, div-add-mod' n z))))
 
   pub cut-even : n ≤ mostSlots * z → n / z * z ≡ n → Slots (n / z) ≡ cut z n
   cut-even h e = let none : n % z ≡ 0 = omega (arith, div-add-mod' n z) in rw (eq-eqb (n % z) 0 none, le-ltb (mostSlots * z) n h)

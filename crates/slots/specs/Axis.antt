@@ -37,6 +37,7 @@ main RightToLeft = X
 main TopToBottom = Y
 main BottomToTop = Y
 
+-- the other of the two
 abbrev pub other : Axis → Axis
 other X = Y
 other Y = X

@@ -31,6 +31,7 @@ withIdentity g i c f s =
       cluster = s .cluster;
     }
 
+-- the slot with another glyph
 abbrev pub withGlyph : ℕ → Slot → Slot
 withGlyph g s = withIdentity g (s .ligatureId) (s .component) (s .flags) s
 
@@ -40,6 +41,7 @@ flagIn Seen n = eqb (n % 2) 1
 flagIn Mark n = eqb (n / 2 % 2) 1
 flagIn Multiplied n = eqb (n / 4 % 2) 1
 
+-- is the flag of a slot set?
 abbrev pub flagOf : Flag → Slot → Bool
 flagOf f s = flagIn f (s .flags)
 
@@ -61,6 +63,7 @@ attached t c s =
       cluster = s .cluster;
     }
 
+-- the slot with another chain, its type as it was
 abbrev pub withChain : ℤ → Slot → Slot
 withChain c s = attached (s .attachType) c s
 
@@ -75,6 +78,7 @@ byteOf Component s = s .component
 byteOf Flags s = s .flags
 byteOf AttachType s = s .attachType
 
+-- the slot with one of them changed
 abbrev pub withByte : ByteField → ℕ → Slot → Slot
 withByte LigatureId n s = withIdentity (s .glyph) n (s .component) (s .flags) s
 withByte Component n s = withIdentity (s .glyph) (s .ligatureId) n (s .flags) s
@@ -106,15 +110,18 @@ measure Advance Y s = s .yAdvance
 measure Offset X s = s .xOffset
 measure Offset Y s = s .yOffset
 
+-- the slot with one of them changed
 abbrev pub withMeasure : Measure → Axis → ℤ → Slot → Slot
 withMeasure Advance X z s = withPlace z (s .yAdvance) (s .xOffset) (s .yOffset) s
 withMeasure Advance Y z s = withPlace (s .xAdvance) z (s .xOffset) (s .yOffset) s
 withMeasure Offset X z s = withPlace (s .xAdvance) (s .yAdvance) z (s .yOffset) s
 withMeasure Offset Y z s = withPlace (s .xAdvance) (s .yAdvance) (s .xOffset) z s
 
+-- the advance on an axis
 abbrev pub advance : Axis → Slot → ℤ
 advance a s = measure Advance a s
 
+-- the offset on an axis
 abbrev pub offset : Axis → Slot → ℤ
 offset a s = measure Offset a s
 

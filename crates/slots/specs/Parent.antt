@@ -43,7 +43,7 @@ parent ss i = parentBy (length ss) i (slot ss i .chain)
 abbrev pub isAttached : List Slot → ℕ → Bool
 isAttached ss i = not (eqb (natAbs (slot ss i .chain)) 0)
 
--- the line with slot i unattached
+-- the line with slot i's chain 0; its type stays
 unfoldable pub cleared : List Slot → ℕ → List Slot
 cleared ss i = update i (withChain (pos 0)) ss
 

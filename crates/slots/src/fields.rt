@@ -33,7 +33,8 @@ ghost use Rattle.slots.specs.Slot.{chainAt, slotOf, slotSize};
 ghost use Rattle.slots.specs.code.Shape.{Fits, Inside, partShape};
 ghost use Rattle.slots.specs.Line.{slot, slots, update};
 ghost use Rattle.slots.specs.code.Fields.{byteAt, measureAt, swapped};
-ghost use Rattle.slots.specs.Fields.{byteOf, cursiveBit, flagOf, measure, withByte, withChain, withGlyph, withMeasure};
+ghost use Rattle.slots.specs.Fields.{byteOf, cursiveBit, flagOf, measure, withByte, withChain, withGlyph};
+ghost use Rattle.slots.specs.Fields.{withMeasure};
 ghost use Rattle.slots.specs.Parent.{isAttached};
 
 // The fields of one byte.
@@ -139,7 +140,7 @@ pub fn is_attached(line: &[u8], shape: Shape, i: usize) -> bool
     chain_bytes(line, shape, i) != 0
 }
 
-// The same of slot i. For a test of 0 the bytes need not be swapped.
+// The two bytes of slot i's chain as one number, the first lowest: for a test of 0 they need not be swapped.
 pub fn chain_bytes(line: &[u8], shape: Shape, i: usize) -> u32
     requires { ⌜ Inside shape (now line) i ⌝ }
     ensures { λ r. ⌜ (signed 2 (swapped r) ≡ slot (slots shape (now (line .entry))) i .chain) × (r < whole16) ⌝ }

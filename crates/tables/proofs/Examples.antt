@@ -20,8 +20,8 @@ use Rattle.tables.specs.AnchorRows.{anchorIn, rowsOf}
 use Rattle.tables.specs.declared.coverage.Covered.the-variants.{Index, Not}
 use Rattle.tables.specs.declared.anchor_rows.Rows.the-variants.{Of, Absent}
 
-abbrev spot : ℤ → ℤ → Point
-spot x y = record { x = x; y = y }
+abbrev point : ℤ → ℤ → Point
+point x y = record { x = x; y = y }
 
 abbrev mark : ℕ → Point → MarkAnchor
 mark c a = record { class = c; anchor = a }
@@ -77,16 +77,16 @@ pub record Worked : Type 0 where
   -- another offset leads into the table; past the end it is cut
   pub offset : (coverageAt (7 ∷ 7 ∷ glyphs) 2 59 ≡ Index 1) × (coverageGoodAt glyphs 15 ≡ false)
   -- anchors of each format, and the same with the last byte cut off
-  pub anchor : map anchorOf anchors ≡ (some (spot (pos 189) (negsuc 102)) ∷ some (spot (pos 322) (pos 900)) ∷ some (spot (pos 279) (pos 1301)) ∷ [])
+  pub anchor : map anchorOf anchors ≡ (some (point (pos 189) (negsuc 102)) ∷ some (point (pos 322) (pos 900)) ∷ some (point (pos 279) (pos 1301)) ∷ [])
   pub anchor-cut : map anchorOf (take 5 (words (1 ∷ 189 ∷ 65433 ∷ [])) ∷ words (3 ∷ 279 ∷ 1301 ∷ 10 ∷ []) ∷ []) ≡ (none ∷ none ∷ [])
   -- the formats 0 and 4 are unknown
   pub anchor-unknown : map anchorOf (words (0 ∷ 1 ∷ 1 ∷ []) ∷ words (4 ∷ 1 ∷ 1 ∷ 1 ∷ 1 ∷ 1 ∷ []) ∷ []) ≡ (none ∷ none ∷ [])
   -- a mark, and a mark record past the count
-  pub mark-array : map (markOf marks) (0 ∷ 1 ∷ []) ≡ (some (mark 3 (spot (pos 10) (pos 20))) ∷ none ∷ [])
+  pub mark-array : map (markOf marks) (0 ∷ 1 ∷ []) ≡ (some (mark 3 (point (pos 10) (pos 20))) ∷ none ∷ [])
   -- a zero anchor offset in a mark record is read as given
-  pub mark-zero : markOf zero-mark 0 ≡ some (mark 3 (spot (pos 3) (pos 0)))
+  pub mark-zero : markOf zero-mark 0 ≡ some (mark 3 (point (pos 3) (pos 0)))
   -- rows: an anchor, a zero offset, a class past the class count, a row past the row count; and a table that isn't whole
-  pub row : map (anchorIn rows 1 2 0) (0 ∷ 1 ∷ 2 ∷ []) ≡ (some (spot (pos 7) (pos 8)) ∷ none ∷ none ∷ [])
+  pub row : map (anchorIn rows 1 2 0) (0 ∷ 1 ∷ 2 ∷ []) ≡ (some (point (pos 7) (pos 8)) ∷ none ∷ none ∷ [])
   pub row-past : (anchorIn rows 1 2 1 0 ≡ none) × (rowsOf rows 2 ≡ Of 1) × (rowsOf rows 6 ≡ Absent)
 
 pub worked : Worked
@@ -133,7 +133,7 @@ pub record Ends : Type 0 where
   pub children : (map (childOf offsets 0 3) (0 ∷ 1 ∷ 2 ∷ []) ≡ ((5 ∷ []) ∷ [] ∷ [] ∷ [])) × (childOf offsets 0 1 1 ≡ []) × (childOf offsets 0 9 3 ≡ [])
   -- an anchor of format 2 with its coordinates but not its last byte is none; bytes past its own don't matter; coordinates are signed
   pub anchor-ends : map anchorOf (take 7 (words (2 ∷ 1 ∷ 1 ∷ 1 ∷ [])) ∷ words (1 ∷ 32768 ∷ 32767 ∷ 9 ∷ []) ∷ (0 ∷ []) ∷ [])
-      ≡ (none ∷ some (spot (negsuc 32767) (pos 32767)) ∷ none ∷ [])
+      ≡ (none ∷ some (point (negsuc 32767) (pos 32767)) ∷ none ∷ [])
   -- a mark record whose last byte is cut, one whose anchor is cut, and a mark array of one byte
   pub marks-cut : (markOf (take 5 marks) 0 ≡ none) × (markOf (take 11 marks) 0 ≡ none) × (markOf (1 ∷ []) 0 ≡ none)
   -- rows: none; rows without columns; a count of one byte

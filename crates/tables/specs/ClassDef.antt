@@ -10,7 +10,8 @@ use lib.Dec.{eqb, leb, ltb}
 use lib.ListN.{drop, length}
 use Rattle.ints.specs.BigEndian.{u16At}
 use Rattle.ints.specs.Choice.{if_then_else_}
-use Rattle.tables.specs.Spans.{ascends, firstHolding, rangeSpans, wholeSpans, listHeaderSize, rangeRecord, rangeRecordSize}
+use Rattle.tables.specs.Spans.{ascends, firstHolding, rangeSpans, wholeSpans, listHeaderSize, rangeRecord}
+use Rattle.tables.specs.Spans.{rangeRecordSize}
 
 -- which layout the list has
 abbrev pub classFormat : List ℕ → ℕ

@@ -9,7 +9,8 @@ use lib.Dec.{eqb, ltb}
 use lib.ListN.{drop, length}
 use Rattle.ints.specs.BigEndian.{u16At}
 use Rattle.ints.specs.Choice.{if_then_else_}
-use Rattle.tables.specs.Spans.{ascends, firstHolding, glyphSpans, rangeSpans, wholeSpans, glyphSize, listHeaderSize, rangeRecord, rangeRecordSize}
+use Rattle.tables.specs.Spans.{ascends, firstHolding, glyphSpans, rangeSpans, wholeSpans, glyphSize}
+use Rattle.tables.specs.Spans.{listHeaderSize, rangeRecord, rangeRecordSize}
 use Rattle.tables.specs.declared.coverage.Covered.{Covered}
 use Rattle.tables.specs.declared.coverage.Covered.the-variants.{Index, Not}
 

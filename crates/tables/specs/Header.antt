@@ -19,6 +19,6 @@ coverageOffset t = u16At t 2
 abbrev pub mostBytes : ℕ
 mostBytes = 65536
 
--- a header of format 1 or 2 is whole: it has `one` bytes in format 1, `two` in format 2
+-- the header is whole and its format is 1 or 2: it has `one` bytes in format 1, `two` in format 2
 unfoldable pub headerGood : ℕ → ℕ → List ℕ → Bool
 headerGood one two t = leb one (length t) && (eqb (posFormat t) 1 || (eqb (posFormat t) 2 && leb two (length t)))

@@ -28,7 +28,8 @@ firstHolding [] g = 0
 firstHolding (p ∷ ps) g = if holds p g then 0 else suc (firstHolding ps g)
 
 -- ---- spans in bytes
--- a coverage table or a class list starts with two uint16, its format first; an array of spans follows them
+-- a coverage table or a class list has at least two uint16, its format first; in all but class format 1 the second is
+-- the count, and an array of spans follows
 abbrev pub listHeaderSize : ℕ
 listHeaderSize = 4
 

@@ -21,7 +21,7 @@ const MARK_ANCHOR_OFFSET: usize = 2;
 
 // A mark of an array.
 pub enum Mark {
-    // Its class, and where it touches what it hangs on.
+    // Its class, and its anchor.
     Of { class: u32, anchor: Point },
     // The array has no such mark, its record is cut, or it has no anchor.
     Absent,

@@ -139,8 +139,8 @@ this-keeps BottomToTop z = measure-keeps Advance Y z
 
 -- ---- across the line
 -- a child hung on a parent
-hung-keeps : (a : Axis) (child parent : ℕ) (z : ℤ) → KeepsClusters (childAttached a child parent z)
-hung-keeps a child parent z = keeps-after (λ ss. reversed a ss child parent) (update child (λ s. attached 2 (chainTo child parent) (withMeasure Offset a z s)))
+attachment-keeps : (a : Axis) (child parent : ℕ) (z : ℤ) → KeepsClusters (childAttached a child parent z)
+attachment-keeps a child parent z = keeps-after (λ ss. reversed a ss child parent) (update child (λ s. attached 2 (chainTo child parent) (withMeasure Offset a z s)))
     (reversed-keeps a parent child) (update-keeps _ (attached-keeps a 2 (chainTo child parent) z) child)
 
 -- the parent separated
@@ -154,7 +154,7 @@ separated-keeps a c parent = keeps-by (blind-as (chain-blind parent) (λ z. same
 tied-keeps : (a : Axis) (child parent : ℕ) (z : ℤ) → KeepsClusters (tied a child parent z)
 unfolding tied
 tied-keeps a child parent z =
-    keeps-after (childAttached a child parent z) (separatedBy a (chainTo child parent) parent) (hung-keeps a child parent z)
+    keeps-after (childAttached a child parent z) (separatedBy a (chainTo child parent) parent) (attachment-keeps a child parent z)
     (separated-keeps a (chainTo child parent) parent)
 
 -- by the flag

@@ -133,8 +133,8 @@ module _ (target : Target) (a : Axis) (t : List ℕ) (i : ℕ) where
 -- ---- the slots that are left
 module _ (s u : ℕ) (d : Direction) (i : ℕ) where
   -- a mark hung
-  hung-keeps : (b : ℕ) (base mark : Point) (walk : ℤ) → SlotKeeps (markAttached s u d i b base mark walk)
-  hung-keeps b base mark walk c m =
+  attachment-keeps : (b : ℕ) (base mark : Point) (walk : ℤ) → SlotKeeps (markAttached s u d i b base mark walk)
+  attachment-keeps b base mark walk c m =
       let along : ℤ = anchorDelta s u (main d) base mark in
       let across : ℤ = satAdd (anchorDelta s u (cross d) base mark) walk in
       ap (attached 1 (pos b -ℤ pos i))
@@ -147,7 +147,7 @@ module _ (s u : ℕ) (d : Direction) (i : ℕ) where
   planned-keeps endless = same-keeps
   planned-keeps (hang b base mark walk) =
       if-keeps (update i (markAttached s u d i b base mark walk)) (λ ss. cleared ss i)
-      (update-keeps (markAttached s u d i b base mark walk) (hung-keeps b base mark walk) i) (cleared-keeps i) (fits i b)
+      (update-keeps (markAttached s u d i b base mark walk) (attachment-keeps b base mark walk) i) (cleared-keeps i) (fits i b)
 
   -- as many as before
   planned-length : (p : Plan) (ss : List Slot) → length (planned s u d i p ss) ≡ length ss

@@ -95,7 +95,7 @@ clusters-read z k (s ∷ ss) (o ∷ old) h e =
     (ap (λ (p : List ℕ). slotOf p .cluster) (take-at (bytesOf z s) (bytes z ss) z (length-bytesOf z k s)) ∙ cluster-at z k s (rw same (h .0 .cluster-fits)))
     (ap (λ (p : List ℕ). clusters (slotsN z (length ss) p)) (drop-at (bytesOf z s) (bytes z ss) z (length-bytesOf z k s)) ∙ clusters-read z k ss old (h .1) others)
 
--- ---- a line that isn't misshapen
+-- ---- a line that isn't bad
 length-plain-n : (n : ℕ) (l : List ℕ) → n * clusteredSize ≤ length l → length (plainN n l) ≡ n * slotSize
 unfolding plainN
 length-plain-n zero l h = rw zero-mul

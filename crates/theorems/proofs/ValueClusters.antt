@@ -21,17 +21,17 @@ choice-keeps f g h k true = h
 choice-keeps f g h k false = k
 
 -- a scaled value put to what is touched
-touched-keeps : (t : FieldEffect) (z : ℤ) → SlotKeeps (withEffect t z)
-touched-keeps skipped z = λ c s. refl
-touched-keeps (added m a) z = slot-by (measure m a) (λ w. withMeasure m a (satAdd w z)) (measure-sees m a) (λ w. measure-keeps m a (satAdd w z))
-touched-keeps (subtracted m a) z = slot-by (measure m a) (λ w. withMeasure m a (satSub w z)) (measure-sees m a) (λ w. measure-keeps m a (satSub w z))
+effect-keeps : (t : FieldEffect) (z : ℤ) → SlotKeeps (withEffect t z)
+effect-keeps skipped z = λ c s. refl
+effect-keeps (added m a) z = slot-by (measure m a) (λ w. withMeasure m a (satAdd w z)) (measure-sees m a) (λ w. measure-keeps m a (satAdd w z))
+effect-keeps (subtracted m a) z = slot-by (measure m a) (λ w. withMeasure m a (satSub w z)) (measure-sees m a) (λ w. measure-keeps m a (satSub w z))
 
 module _ (s u : ℕ) (d : Direction) (r : List ℕ) (f : ℕ) where
   -- one field
   field-keeps : (b : ℕ) → SlotKeeps (withField s u d r f b)
   field-keeps b =
       let z : ℤ = scaled (fieldValue r f b) s u in
-      choice-keeps (withEffect (effectOf d b) z) (λ slot. slot) (touched-keeps (effectOf d b) z) (λ c slot. refl) (has f b)
+      choice-keeps (withEffect (effectOf d b) z) (λ slot. slot) (effect-keeps (effectOf d b) z) (λ c slot. refl) (has f b)
 
   -- the first n fields
   fields-keep : (n : ℕ) → SlotKeeps (withFields s u d r f n)

@@ -1,4 +1,4 @@
 pub mod FormatLaws
-pub mod TouchLaws
+pub mod FieldEffectLaws
 pub mod ValueLaws
 pub mod Examples

@@ -64,7 +64,8 @@ pub record Kept (before after : Slot) : Type 0 where
 pub record Demand3 (d : Direction) (l l′ : List Slot) : Type 0 where
   -- a mark is drawn, along the line, at its parent's drawn place plus its stored offset
   pub mark-along : (i j : ℕ) → Mark l i j → drawn d (main d) l′ i ≡ drawn d (main d) l′ j +ℤ offset (main d) (slot l i)
-  -- across the line, at its parent's pen place plus its stored offset, which has its base's cross offset in it
+  -- across the line, at its parent's pen place plus its stored offset: mark attachment has put its base's cross offset
+  -- into that
   pub mark-across : (i j : ℕ) → Mark l i j → drawn d (cross d) l′ i
       ≡ pen d (cross d) l′ j +ℤ offset (cross d) (slot l i)
   -- a cursive glyph's cross offset is its stored one plus its parent's final one

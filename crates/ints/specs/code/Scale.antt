@@ -1,11 +1,11 @@
 -- The scales that code works with. Assumes nothing.
 use Prim.Native.Nat.{ℕ, _≤_}
-use Rattle.ints.specs.Scale.{leastUpem, mostSize, mostUpem}
+use Rattle.ints.specs.Scale.{leastUpem, mostS, mostUpem}
 
 -- s and u as document 01 allows them
 pub record InScale (s u : ℕ) : Type 0 where
   pub s-low : 1 ≤ s
-  pub s-high : s ≤ mostSize
+  pub s-high : s ≤ mostS
   pub u-low : leastUpem ≤ u
   pub u-high : u ≤ mostUpem
 

@@ -4,6 +4,6 @@ use Prim.Native.Nat.{ℕ, _≤_, _<_}
 use lib.ListN.{length}
 use Rattle.values.specs.Format.{recordLength}
 
--- a record that is found like that is whole, or empty
+-- the bytes that `recordAt` gives are a whole record, or none
 abbrev pub WholeOrEmpty : List ℕ → ℕ → Type 0
 WholeOrEmpty r f = 0 < length r → recordLength f ≤ length r

@@ -7,7 +7,7 @@ use Rattle.slots.specs.Line.{slots}
 use Rattle.tables.specs.code.Meant.{pointOf}
 use Rattle.cursive.specs.CursivePos.{planOf}
 use Rattle.cursive.specs.code.Meant.{meant, Sound}
-use Rattle.cursive.proofs.DecisionLaws.{effect-join, effect-stop}
+use Rattle.cursive.proofs.PlanLaws.{effect-join, effect-stop}
 use borrow.Author.Needs.{needs}
 use Rattle.cursive.proofs.attachment.apply.Statement.{statement}
 use Rattle.cursive.proofs.attachment.apply.Tie as tie

@@ -6,7 +6,7 @@ use Rattle.slots.specs.Slot.{Slot}
 use Rattle.slots.specs.Line.{slots, update}
 use Rattle.slots.specs.declared.axis.Direction.{Direction}
 use Rattle.cursive.specs.Attachment.{previousJoined}
-use Rattle.cursive.proofs.DecisionLaws.{told}
+use Rattle.cursive.proofs.PlanLaws.{told}
 use borrow.Author.Needs.{needs}
 use Rattle.cursive.proofs.attachment.join_previous.Statement.{statement}
 use Rattle.cursive.proofs.attachment.join_previous.Tie as tie

@@ -4,7 +4,7 @@ use denote.Ref.{now}
 use Rattle.ints.specs.code.Signed.{val}
 use Rattle.slots.specs.Line.{slots}
 use Rattle.slots.proofs.LineLaws.{length-slots}
-use Rattle.cursive.proofs.ChainsLaws.{hung-by}
+use Rattle.cursive.proofs.ChainsLaws.{attached-by}
 use borrow.Author.Needs.{needs}
 use Rattle.cursive.proofs.chains.attach_slot.Statement.{statement}
 use Rattle.cursive.proofs.chains.attach_slot.Tie as tie
@@ -28,7 +28,7 @@ returns c =
     let k₁ = k₂ .before .before .before .before in
     let s = k₁ .before .before .before in
     let a = s .args in
-    hung-by (a .i) (a .kind) (val (a .chain)) (a .a) (val (a .z)) (slots (a .shape) (now (a .line))) (omega (arith, length-slots (a .shape) (now (a .line)), s .pre .0))
+    attached-by (a .i) (a .kind) (val (a .chain)) (a .a) (val (a .z)) (slots (a .shape) (now (a .line))) (omega (arith, length-slots (a .shape) (now (a .line)), s .pre .0))
     (k₁ .set .ensures) (k₂ .set-chain .ensures) (k₃ .set-byte .ensures)
 
 pub attach-slot-spec : {M : Type 1} → statement M

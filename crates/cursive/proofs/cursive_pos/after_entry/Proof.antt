@@ -6,7 +6,7 @@ use Rattle.slots.specs.Line.{slots}
 use Rattle.tables.specs.code.Meant.{AnchorNear, anchorPoint}
 use Rattle.tables.specs.declared.anchor.Anchor.{Anchor}
 use Rattle.cursive.specs.CursivePos.{afterEntry, Plan}
-use Rattle.cursive.proofs.DecisionLaws.{told}
+use Rattle.cursive.proofs.PlanLaws.{told}
 use borrow.Author.Needs.{needs}
 use Rattle.cursive.proofs.cursive_pos.after_entry.Statement.{statement}
 use Rattle.cursive.proofs.cursive_pos.after_entry.Tie as tie

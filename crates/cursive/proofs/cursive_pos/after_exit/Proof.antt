@@ -3,7 +3,7 @@ use mathlib.Core.Path.{refl, ap, subst}
 use Rattle.tables.specs.code.Meant.{AnchorNear, anchorPoint, pointOf}
 use Rattle.tables.specs.declared.anchor.Anchor.{Anchor}
 use Rattle.cursive.specs.CursivePos.{afterExit, Plan, stop}
-use Rattle.cursive.proofs.DecisionLaws.{told}
+use Rattle.cursive.proofs.PlanLaws.{told}
 use borrow.Author.Needs.{needs}
 use Rattle.cursive.proofs.cursive_pos.after_exit.Statement.{statement}
 use Rattle.cursive.proofs.cursive_pos.after_exit.Tie as tie

@@ -8,7 +8,7 @@ use Rattle.tables.specs.code.Meant.{pointOf}
 use Rattle.answers.specs.declared.Neighbour.{Neighbour}
 use Rattle.cursive.specs.CursivePos.{afterNeighbour, afterPrevious, indexOf, Plan, stop}
 use Rattle.cursive.specs.code.Meant.{Before}
-use Rattle.cursive.proofs.DecisionLaws.{found, told}
+use Rattle.cursive.proofs.PlanLaws.{found, told}
 use borrow.Author.Needs.{needs}
 use Rattle.cursive.proofs.cursive_pos.after_neighbour.Statement.{statement}
 use Rattle.cursive.proofs.cursive_pos.after_neighbour.Tie as tie

@@ -3,7 +3,7 @@ use mathlib.Core.Path.{refl}
 use denote.Ref.{now}
 use Rattle.tables.specs.code.Meant.{pointOf}
 use Rattle.cursive.specs.CursivePos.{afterExit, afterPrevious}
-use Rattle.cursive.proofs.DecisionLaws.{found, told}
+use Rattle.cursive.proofs.PlanLaws.{found, told}
 use borrow.Author.Needs.{needs}
 use Rattle.cursive.proofs.cursive_pos.after_previous.Statement.{statement}
 use Rattle.cursive.proofs.cursive_pos.after_previous.Tie as tie

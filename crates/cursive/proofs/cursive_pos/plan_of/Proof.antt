@@ -3,7 +3,7 @@ use mathlib.Core.Path.{refl}
 use denote.Ref.{now}
 use Rattle.slots.specs.Line.{slots}
 use Rattle.cursive.specs.CursivePos.{afterEntry}
-use Rattle.cursive.proofs.DecisionLaws.{found, plan-is}
+use Rattle.cursive.proofs.PlanLaws.{found, plan-is}
 use borrow.Author.Needs.{needs}
 use Rattle.cursive.proofs.cursive_pos.plan_of.Statement.{statement}
 use Rattle.cursive.proofs.cursive_pos.plan_of.Tie as tie

@@ -1,4 +1,4 @@
--- After k turns the first k advances of the part have been put to both offsets, which are held lifted. Assumes nothing.
+-- After k turns the first k advances of the part have been added to both offsets or subtracted, which are held lifted. Assumes nothing.
 use mathlib.Core.Path.{_≡_, refl, ap, _∙_}
 use Prim.Native.Nat.{_-_, _≤_, _<_}
 use native.Mathlib.Omega.{arith}

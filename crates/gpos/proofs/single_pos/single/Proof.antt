@@ -51,8 +51,8 @@ returns c =
 enum-known-checked-2 : tie.Need-enum-known-checked-2
 enum-known-checked-2 c = search needs
 
-is-misplaced-requires : tie.Need-is-misplaced-requires
-is-misplaced-requires c κs = search needs
+is-bad-place-requires : tie.Need-is-bad-place-requires
+is-bad-place-requires c κs = search needs
 
 same-length-2 : tie.Need-same-length-2
 same-length-2 c = search needs
@@ -61,7 +61,7 @@ returns-2 : tie.Need-returns-2
 returns-2 c =
     let k = c .before .before in
     let s = at-start k in
-    refused-index (parts s) (s .args .size) (s .args .line .now) (ok k) (c .before .is-misplaced .ensures) (c .if1 .taken)
+    refused-index (parts s) (s .args .size) (s .args .line .now) (ok k) (c .before .is-bad-place .ensures) (c .if1 .taken)
 
 is-good-requires : tie.Need-is-good-requires
 is-good-requires c κs = search needs
@@ -73,7 +73,7 @@ apply-requires : tie.Need-apply-requires
 apply-requires c κs =
     let k = c .before .before .before .before .before .before in
     let s = at-start k in
-    let ok = passed (parts s) (s .args .size) (s .args .line .now) (ok k) (c .before .before .before .before .before .is-misplaced .ensures) (c .before .before .before .before .if1 .left) in
+    let ok = passed (parts s) (s .args .size) (s .args .line .now) (ok k) (c .before .before .before .before .before .is-bad-place .ensures) (c .before .before .before .before .if1 .left) in
     let good = sym (c .before .before .before .is-good .ensures) ∙ c .before .before .if2 .taken in
     (ok .inside, ok .scale, good)
 
@@ -85,7 +85,7 @@ returns-3 c =
     let k = c .before .before .before .before .before .before .before .before .before in
     let s = at-start k in
     let core = c .before .before .apply in
-    by-core (parts s) (s .args .size) (s .args .line .now) (ok k) (c .before .before .before .before .before .before .before .before .is-misplaced .ensures) (c .before .before .before .before .before .before .before .if1 .left)
+    by-core (parts s) (s .args .size) (s .args .line .now) (ok k) (c .before .before .before .before .before .before .before .before .is-bad-place .ensures) (c .before .before .before .before .before .before .before .if1 .left)
     (core .last .0) (said (core .result)) (c .before .before .before .before .before .before .is-good .ensures) (c .before .before .before .before .before .if2 .taken)
     (c .before .before .before .direction-of .ensures) (λ n. k .before .before .before .before .before .before .slice-known .given n .fits) (λ n. c .slice-known2 .given n .fits) (core .kept .0) (core .ensures)
 
@@ -96,7 +96,7 @@ returns-4 : tie.Need-returns-4
 returns-4 c =
     let k = c .before .before .before .before in
     let s = at-start k in
-    refused-subtable (parts s) (s .args .size) (s .args .line .now) (ok k) (c .before .before .before .is-misplaced .ensures) (c .before .before .if1 .left) (c .before .is-good .ensures) (c .if2 .left)
+    refused-subtable (parts s) (s .args .size) (s .args .line .now) (ok k) (c .before .before .before .is-bad-place .ensures) (c .before .before .if1 .left) (c .before .is-good .ensures) (c .if2 .left)
 
 pub single-spec : {M : Type 1} → statement M
 single-spec =
@@ -107,7 +107,7 @@ single-spec =
     same-length
     returns
     enum-known-checked-2
-    is-misplaced-requires
+    is-bad-place-requires
     same-length-2
     returns-2
     is-good-requires

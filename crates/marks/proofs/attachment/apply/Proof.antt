@@ -9,7 +9,7 @@ use Rattle.slots.proofs.ChainLaws.{zero-fits}
 use Rattle.slots.proofs.ParentLaws.{cleared-is}
 use Rattle.marks.specs.code.Meant.{meant, Sound}
 use Rattle.marks.specs.Plan.{planOf}
-use Rattle.marks.proofs.AttachmentLaws.{effect-endless, effect-far, effect-hung, effect-stop}
+use Rattle.marks.proofs.AttachmentLaws.{effect-endless, effect-far, effect-attached, effect-stop}
 use borrow.Author.Needs.{needs}
 use Rattle.marks.proofs.attachment.apply.Statement.{statement}
 use Rattle.marks.proofs.attachment.apply.Tie as tie
@@ -107,7 +107,7 @@ returns-4 c =
     let k = i .before .before in
     let s = k .before .before in
     let a = s .before .before .before .before .before .args in
-    effect-hung (a .s) (a .u) (a .d) (a .idx) (sym (ap meant (k .plan2 .given .1)) ∙ as-planned s) (i .if1 .left) (c .passed2 .ensures)
+    effect-attached (a .s) (a .u) (a .d) (a .idx) (sym (ap meant (k .plan2 .given .1)) ∙ as-planned s) (i .if1 .left) (c .passed2 .ensures)
     (c .before .before .before .attach-mark .ensures)
 
 pub apply-spec : {M : Type 1} → statement M

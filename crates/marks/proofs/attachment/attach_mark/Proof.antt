@@ -6,7 +6,7 @@ use Rattle.ints.specs.code.Signed.{val}
 use Rattle.slots.specs.Line.{slots}
 use Rattle.slots.proofs.LineLaws.{length-slots}
 use Rattle.tables.specs.code.Meant.{pointOf}
-use Rattle.marks.proofs.AttachmentLaws.{chain-back, chain-fits, hung-by}
+use Rattle.marks.proofs.AttachmentLaws.{chain-back, chain-fits, attached-by}
 use borrow.Author.Needs.{needs}
 use Rattle.marks.proofs.attachment.attach_mark.Statement.{statement}
 use Rattle.marks.proofs.attachment.attach_mark.Tie as tie
@@ -63,7 +63,7 @@ returns c =
     let axes = sum .before .before in
     let a = axes .before .before .before .args in
     let l = now (a .line) in
-    hung-by (a .s) (a .u) (a .d) (a .idx) (a .b) (pointOf (a .base)) (pointOf (a .mark)) (val (a .walk)) (slots (a .shape) l) (omega (arith, length-slots (a .shape) l, axes .before .before .before .pre .0 .below))
+    attached-by (a .s) (a .u) (a .d) (a .idx) (a .b) (pointOf (a .base)) (pointOf (a .mark)) (val (a .walk)) (slots (a .shape) l) (omega (arith, length-slots (a .shape) l, axes .before .before .before .pre .0 .below))
     (axes .before .main-axis .result) (axes .cross-axis .result) (val (along .anchor-delta2 .result)) (val (sum .before .anchor-delta .result))
     (val (sum .sat-add .result)) (val (4294967296 - (a .idx - a .b)))
     (slots (a .shape) (b1 .set .last .0)) (slots (a .shape) (b2 .set2 .last .0)) (slots (a .shape) (b3 .set-chain .last .0)) (slots (a .shape) (b4 .set-byte .last .0))

@@ -2,7 +2,7 @@
 use mathlib.Core.Path.{refl}
 use borrow.Author.Needs.{needs}
 use Rattle.values.specs.FieldEffect.{effectOf}
-use Rattle.values.proofs.TouchLaws.{touch-at}
+use Rattle.values.proofs.FieldEffectLaws.{effect-at}
 use Rattle.values.proofs.field_effect.effect_of.Statement.{statement}
 use Rattle.values.proofs.field_effect.effect_of.Tie as tie
 
@@ -19,7 +19,7 @@ returns : tie.Need-returns
 unfolding effectOf
 returns c =
     let a = c .before .args in
-    touch-at _ refl (a .d) (a .field) (c .effect-row .result) (c .before .pre) (c .effect-row .ensures .0)
+    effect-at _ refl (a .d) (a .field) (c .effect-row .result) (c .before .pre) (c .effect-row .ensures .0)
 
 pub effect-of-spec : {M : Type 1} → statement M
 effect-of-spec = tie.close (tie.spec effect-row-requires add-result array-read-result returns)

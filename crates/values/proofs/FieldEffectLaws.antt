@@ -76,9 +76,9 @@ rule-at d b h = go d
     go BottomToTop = (at 3 (24 + b) (omega arith) (omega arith), omega arith)
 
 -- a table of the rule's codes says at field b in the row r of direction d what the rule says
-pub touch-at : (l : List ℕ) → l ≡ build code 0 32 → (d : Direction) (b r : ℕ) → b < 8 → r ≡ effectRow d →
+pub effect-at : (l : List ℕ) → l ≡ build code 0 32 → (d : Direction) (b r : ℕ) → b < 8 → r ≡ effectRow d →
     (effectBy (getD l (r + b) 0) ≡ effectOf d b) × (getD l (r + b) 0 < 5)
-touch-at l e d b r h q =
+effect-at l e d b r h q =
     let p = rule-at d b h in
     let t = code-read (effectRow d + b) (p .1) in
     let x : getD l (r + b) 0 ≡ code (effectRow d + b) = rw q (entry code 0 32 (effectRow d + b) l e (p .1)) in

@@ -2,8 +2,8 @@
 use borrow.Author.Tests.{lt-leb}
 use Rattle.gpos.proofs.NeighbourLaws.{out-of-line}
 use borrow.Author.Needs.{needs}
-use Rattle.gpos.proofs.neighbours.is_misplaced.Statement.{statement}
-use Rattle.gpos.proofs.neighbours.is_misplaced.Tie as tie
+use Rattle.gpos.proofs.neighbours.is_bad_place.Statement.{statement}
+use Rattle.gpos.proofs.neighbours.is_bad_place.Tie as tie
 
 returns : tie.Need-returns
 returns c = let a = c .before .args in out-of-line (a .n) (a .index) (a .beside) (c .if1 .taken)
@@ -32,8 +32,8 @@ is-bad-before-requires c κs = search needs
 returns-4 : tie.Need-returns-4
 returns-4 c = rw (c .before .before .beside2 .given .1, lt-leb _ _ (c .before .before .before .before .if1 .left)) (c .is-bad-before .ensures)
 
-pub is-misplaced-spec : {M : Type 1} → statement M
-is-misplaced-spec =
+pub is-bad-place-spec : {M : Type 1} → statement M
+is-bad-place-spec =
     tie.close
     (tie.spec
     returns
