@@ -22,8 +22,8 @@ use Rattle.recorded.specs.declared.numbers.Call.{Call}
 use Rattle.recorded.specs.declared.numbers.Numbers.{Numbers}
 
 -- the neighbour that the numbers name
-abbrev pub beside : Numbers → Neighbour
-beside n = neighbour (n .missing) (n .neighbour)
+abbrev pub neighbourOf : Numbers → Neighbour
+neighbourOf n = neighbour (n .missing) (n .neighbour)
 
 -- the answer of starting, finishing or a move, which is a number, laid out: status 0 where done, else 3, and the number
 -- of the refusal
@@ -41,10 +41,10 @@ pub data Made (n : Numbers) (l t : List ℕ) (a : CAnswer) (l′ : List ℕ) : T
   single : n .kind ≡ 2
       → IsLayoutOf toC (λ x. SingleCall (n .size) l t (n .direction) (n .s) (n .u) (n .index) x l′) a → Made n l t a l′
   pair : n .kind ≡ 3
-      → IsLayoutOf toC (λ x. PairCall (n .size) l t (n .direction) (n .s) (n .u) (n .index) (beside n) x l′) a
+      → IsLayoutOf toC (λ x. PairCall (n .size) l t (n .direction) (n .s) (n .u) (n .index) (neighbourOf n) x l′) a
       → Made n l t a l′
   cursive : n .kind ≡ 4
-      → IsLayoutOf toC (λ x. CursiveCall (n .size) l t (n .direction) (n .s) (n .u) (n .index) (beside n)
+      → IsLayoutOf toC (λ x. CursiveCall (n .size) l t (n .direction) (n .s) (n .u) (n .index) (neighbourOf n)
       (n .flag) x l′) a
       → Made n l t a l′
   markBase : n .kind ≡ 5

@@ -13,6 +13,13 @@ use gpos_c::gpos_to_clusters;
 use gpos_c::laid;
 use recorded::Numbers;
 use recorded::has_target;
+use recorded::kinds::CURSIVE;
+use recorded::kinds::FINISH;
+use recorded::kinds::MARK_BASE;
+use recorded::kinds::PAIR;
+use recorded::kinds::SINGLE;
+use recorded::kinds::START;
+use recorded::kinds::TO_CLUSTERS;
 ghost use mathlib.Core.Path.{_≡_};
 ghost use Prim.Native.Nat.{_<_};
 ghost use lib.Dec.{eqb};
@@ -44,10 +51,10 @@ fn make_on_line(n: Numbers, line: &mut [u8], subtable: &[u8]) -> CAnswer
 {
     let kind = n.kind;
     match kind {
-        0 => numbered(gpos_start(line, n.size)),
-        1 => numbered(gpos_finish(line, n.size, n.direction, n.limit, n.attachments)),
-        2 => gpos_single(line, n.size, subtable, n.direction, n.s, n.u, n.index),
-        3 => gpos_pair(
+        START => numbered(gpos_start(line, n.size)),
+        FINISH => numbered(gpos_finish(line, n.size, n.direction, n.limit, n.attachments)),
+        SINGLE => gpos_single(line, n.size, subtable, n.direction, n.s, n.u, n.index),
+        PAIR => gpos_pair(
             line,
             n.size,
             subtable,
@@ -58,7 +65,7 @@ fn make_on_line(n: Numbers, line: &mut [u8], subtable: &[u8]) -> CAnswer
             n.missing,
             n.neighbour,
         ),
-        4 => gpos_cursive(
+        CURSIVE => gpos_cursive(
             line,
             n.size,
             subtable,
@@ -70,7 +77,7 @@ fn make_on_line(n: Numbers, line: &mut [u8], subtable: &[u8]) -> CAnswer
             n.neighbour,
             n.flag,
         ),
-        5 => gpos_mark_base(line, n.size, subtable, n.direction, n.s, n.u, n.index),
+        MARK_BASE => gpos_mark_base(line, n.size, subtable, n.direction, n.s, n.u, n.index),
         _ => gpos_mark_ligature(line, n.size, subtable, n.direction, n.s, n.u, n.index),
     }
 }
@@ -80,7 +87,7 @@ fn make_move(n: Numbers, line: &[u8], target: &mut [u8]) -> CAnswer
     requires { ⌜ (6 < n .kind) × (n .kind < 9) ⌝ }
     ensures { λ r. ⌜ Made n (now (line .entry)) (now (target .entry)) r (now (target .exit)) ⌝ }
 {
-    if n.kind == 7 {
+    if n.kind == TO_CLUSTERS {
         return numbered(gpos_to_clusters(line, target));
     }
     numbered(gpos_from_clusters(line, target))

@@ -5,6 +5,7 @@ use crate::replaying::unmade;
 use libc::STDIN_FILENO;
 use recorded::after_length;
 use recorded::call_of;
+use recorded::kinds::FROM_CLUSTERS;
 use recorded::unsigned;
 ghost use mathlib.Core.Bool.{true};
 ghost use mathlib.Core.Path.{_≡_};
@@ -40,7 +41,7 @@ pub fn next(line: &mut [u8; 65536], subtable: &mut [u8; 65536]) -> Remade {
     if !complete {
         return unmade(c);
     }
-    if 8 < n.kind {
+    if FROM_CLUSTERS < n.kind {
         return unmade(c);
     }
     if !is_read(line, n.line) {

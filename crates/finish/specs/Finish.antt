@@ -83,6 +83,10 @@ newOffset d l i j a = newOffsetBy (attachKind (slot l i .attachType)) (isMain d 
 
 -- ---- finishing
 
+-- the most parents that are followed from a slot (`MAX_NESTING_LEVEL`)
+abbrev pub maxNestingLevel : ℕ
+maxNestingLevel = 64
+
 -- the slot with other offsets, all else as it was
 abbrev pub withOffsets : ℤ → ℤ → Slot → Slot
 withOffsets ox oy s = withPlace (s .xAdvance) (s .yAdvance) ox oy s

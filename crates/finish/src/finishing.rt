@@ -8,6 +8,9 @@ ghost use Rattle.slots.specs.code.Shape.{Fits};
 ghost use Rattle.slots.specs.Line.{slots};
 ghost use Rattle.finish.specs.Finish.{finished, settledDown, settledUp};
 
+// The most parents that are followed from a slot.
+pub const MAX_NESTING_LEVEL: u32 = 64;
+
 // A line with attachments is finished.
 pub fn finish_line(line: &mut [u8], shape: Shape, d: Direction, limit: u32)
     requires { ⌜ Fits shape (now line) ⌝ }

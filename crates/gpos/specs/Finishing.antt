@@ -4,17 +4,17 @@ use mathlib.Core.List.{List}
 use Prim.Native.Nat.{ℕ}
 use lib.Dec.{ltb}
 use Rattle.slots.specs.Axis.{directionOf}
-use Rattle.finish.specs.Finish.{finished}
+use Rattle.finish.specs.Finish.{finished, maxNestingLevel}
 use Rattle.answers.specs.Outcome.{Call, Made}
 use Rattle.answers.specs.Said.{done, saidDone, unless}
 use Rattle.answers.specs.declared.Done.{Done}
 use Rattle.gpos.specs.Checks.{slotTests}
 
--- refusals 2 to 4, a nesting limit above 64 among them; else done, and the slots are finished
+-- refusals 2 to 4, a nesting limit above the most among them; else done, and the slots are finished
 abbrev pub finish : ℕ → ℕ → Bool → Call
 finish direction limit attachments =
     record {
-      says = λ ss. unless (slotTests ss direction (ltb 64 limit)) done;
+      says = λ ss. unless (slotTests ss direction (ltb maxNestingLevel limit)) done;
       leaves = finished (directionOf direction) limit attachments;
     }
 

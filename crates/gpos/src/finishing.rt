@@ -2,6 +2,7 @@
 use crate::checks::Checked;
 use crate::checks::check_slots;
 use answers::Done;
+use finish::finishing::MAX_NESTING_LEVEL;
 use slots::axis::direction_of;
 ghost use Rattle.gpos.specs.Finishing.{FinishCall};
 
@@ -10,7 +11,7 @@ ghost use Rattle.gpos.specs.Finishing.{FinishCall};
 pub fn finish(line: &mut [u8], size: usize, direction: u32, limit: u32, attachments: bool) -> Done
     ensures { λ r. ⌜ FinishCall size (now (line .entry)) direction limit attachments r (now (line .exit)) ⌝ }
 {
-    let checked = check_slots(line, size, direction, 64 < limit);
+    let checked = check_slots(line, size, direction, MAX_NESTING_LEVEL < limit);
     match checked {
         Checked::Refused(r) => Done::Refused(r),
         Checked::Slots(shape) => {

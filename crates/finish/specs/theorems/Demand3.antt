@@ -14,7 +14,7 @@ use Rattle.slots.specs.Parent.{parent}
 use Rattle.slots.specs.declared.axis.Axis.{Axis}
 use Rattle.slots.specs.declared.axis.Direction.{Direction}
 use Rattle.slots.specs.declared.parent.Parent.the-variants.{InLine}
-use Rattle.finish.specs.Finish.{advances}
+use Rattle.finish.specs.Finish.{advances, maxNestingLevel}
 
 -- pen place: the sum of the advances of earlier slots in a forward direction, of later slots in a backward one
 unfoldable pub penOf : Bool → List ℤ → ℕ → ℤ
@@ -36,7 +36,7 @@ EndsWithin l (suc n) i = (j : ℕ) → parent l i ≡ InLine j → EndsWithin l 
 -- the lines that demand 3 speaks of
 pub record Bounded (limit : ℕ) (l : List Slot) : Type 0 where
   pub few-slots : length l ≤ 1024
-  pub nesting : limit ≤ 64
+  pub nesting : limit ≤ maxNestingLevel
   pub advances-near : (i : ℕ) (a : Axis) → i < length l → natAbs (advance a (slot l i)) ≤ 524288
   pub offsets-near : (i : ℕ) (a : Axis) → i < length l → natAbs (offset a (slot l i)) ≤ 524288
   pub chains-end : (i : ℕ) → i < length l → EndsWithin l limit i
