@@ -1,4 +1,4 @@
--- Worked values by hand from document 01: what answers say, the lowest refusal, the line afterwards. They compute. Assumes nothing.
+-- Values worked by hand from the rules: what answers say, the lowest refusal, the line afterwards. They compute. Assumes nothing.
 use mathlib.Core.Bool.{true, false}
 use mathlib.Core.List.{[], _∷_, map}
 use mathlib.Core.Path.{_≡_, refl}

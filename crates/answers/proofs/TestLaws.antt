@@ -1,4 +1,4 @@
--- A table of tests, read in two steps. Assumes nothing.
+-- A table of tests, read in two steps, and what holds of all that it may say. Assumes nothing.
 use mathlib.Core.Path.{_≡_, refl}
 use mathlib.Core.Bool.{Bool, true, false}
 use mathlib.Core.List.{List, [], _∷_, _++_}
@@ -41,4 +41,14 @@ clear-parts (t ∷ a) b e = go (t .0) e (clear-parts a b)
     go : (c : Bool) → (if c then refused (t .1) else unless (a ++ b) done) ≡ done → (unless (a ++ b) done ≡ done → (unless a done ≡ done) × (unless b done ≡ done))
         → ((if c then refused (t .1) else unless a done) ≡ done) × (unless b done ≡ done)
     go true f rest = clash (cc)
+    go false f rest = rest f
+
+-- what holds of each refusal, and of what follows where no test holds, holds of what is said
+pub of-unless : (P : Said → Type 0) → ((n : ℕ) → P (refused n)) → (ts : List (Bool × ℕ)) (s : Said) → (unless ts done ≡ done → P s) → P (unless ts s)
+of-unless P refuses [] s follows = follows refl
+of-unless P refuses (t ∷ ts) s follows = go (t .0) follows (of-unless P refuses ts s)
+  where
+    go : (c : Bool) → ((if c then refused (t .1) else unless ts done) ≡ done → P s) → ((unless ts done ≡ done → P s) → P (unless ts s))
+        → P (if c then refused (t .1) else unless ts s)
+    go true f rest = refuses (t .1)
     go false f rest = rest f

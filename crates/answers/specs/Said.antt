@@ -1,4 +1,4 @@
--- What a call says, in the terms of documents 01 and 02, and what each case of code's answers says. Assumes nothing.
+-- What a call says, in the terms of docs/RULES.md, and what each case of code's answers says. Assumes nothing.
 use mathlib.Core.Bool.{Bool}
 use mathlib.Core.List.{List, [], _∷_}
 use Prim.Native.Nat.{ℕ}
@@ -22,15 +22,15 @@ pub data Range : Type 0 where
   unsafeToBreak : (start end : ℕ) → Range
   unsafeToConcat : (start end : ℕ) → Range
 
--- What a call says. Applied: the next index, the hazards in order, whether it attached. Declined: one hazard or none.
--- Refused: a number of the documents. Starting, finishing and the moves say only "done".
+-- What a call says. Applied: at which index to go on, what hazards there are, in order, and whether a glyph was
+-- attached. Declined: the hazard, where there is one. Refused: the number. Starting, finishing and the moves say done.
 pub data Said : Type 0 where
   applied : (next : ℕ) (hazards : List Range) (attached : Bool) → Said
   declined : (hazards : List Range) → Said
   refused : (number : ℕ) → Said
   done : Said
 
--- the table of refusals, of document 01
+-- the numbers of the refusals
 abbrev pub refusalNumber : Refusal → ℕ
 refusalNumber Line = 1
 refusalNumber Direction = 2
@@ -61,7 +61,7 @@ said (Applied n hs a) = applied n (ranges hs) a
 said (Declined hs) = declined (ranges hs)
 said (Refused r) = refused (refusalNumber r)
 
--- what a move says; its own number is document 02's
+-- what a move says; refusal 10 is its own
 abbrev pub saidMoved : Moved → Said
 saidMoved MovedNow = done
 saidMoved (NotMoved r) = refused (refusalNumber r)

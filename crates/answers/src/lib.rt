@@ -1,5 +1,5 @@
-// What the calls answer, in one place: cores and public calls use the same types. specs/Said.antt gives the documents'
-// words and numbers for each case.
+// What the calls answer, in one place: cores and public calls use the same types. specs/Said.antt has what
+// each case says, by the rules.
 ghost use mathlib.Core.List.{[], _∷_};
 ghost use mathlib.Core.Path.{_≡_};
 ghost use Rattle.answers.specs.Said.{unsafeToBreak, unsafeToConcat, range, ranges, refusalNumber};
@@ -60,7 +60,7 @@ pub fn miss(start: usize, end: usize) -> Hazards
     Hazards::One(unsafe_to_concat(start, end))
 }
 
-// Why a call is refused, in the order of document 01's table, 1 to 7.
+// Why a call is refused, in the order of the rules, 1 to 7.
 pub enum Refusal {
     // A slot has no such size; or the line's length is no multiple of it, or above 1,024 slots'.
     Line,
@@ -68,7 +68,7 @@ pub enum Refusal {
     Direction,
     // s, u or the nesting limit is out of its range.
     Number,
-    // A slot's id, component or spare flag bits are out of range.
+    // A slot has a ligature id, a component or flags that are out of range.
     Slot,
     // The index is not in the line, or the neighbour is not where it must be.
     Index,
@@ -78,7 +78,7 @@ pub enum Refusal {
     Endless,
 }
 
-// Document 01's number of a refusal.
+// The number of a refusal.
 pub fn refusal_number(x: Refusal) -> u32
     ensures { λ r. ⌜ r ≡ refusalNumber x ⌝ }
 {
@@ -110,8 +110,7 @@ pub enum Answer {
 pub enum Moved {
     Done,
     Refused(Refusal),
-    // Refusal 10, which is theirs alone: the target isn't exactly as long as the moved line, or a cluster would be
-    // lost.
+    // Refusal 10, which is theirs alone: the target hasn't just the moved line's length, or a cluster would be lost.
     Unfit,
 }
 

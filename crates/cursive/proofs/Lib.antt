@@ -5,4 +5,4 @@ pub mod AttachmentLaws
 pub mod PlanLaws
 pub mod Sound
 pub mod Examples
-pub mod HazardLaws
+pub mod SaidLaws

@@ -1,8 +1,8 @@
 -- The ways through an applying call: refused by its checks, refused for its subtable, or handed to its core. Assumes nothing.
 use mathlib.Core.Path.{_≡_, refl, sym, ap, _∙_}
 use mathlib.Core.Bool.{Bool, true, false, not}
-use mathlib.Core.List.{List, [], _∷_}
-use Prim.Native.Nat.{ℕ}
+use mathlib.Core.List.{List, [], _∷_, _++_}
+use Prim.Native.Nat.{ℕ, _<_}
 use lib.ListN.{length}
 use Rattle.ints.specs.BigEndian.{AllBytes}
 use Rattle.ints.specs.code.Scale.{InScale}
@@ -19,7 +19,7 @@ use Rattle.answers.specs.Outcome.{answerTo, Call, Made}
 use Rattle.answers.specs.code.Effect.{MadeOn}
 use Rattle.answers.specs.declared.Refusal.{Refusal}
 use Rattle.answers.proofs.OutcomeLaws.{made-by, made-refused, outcome-refused}
-use Rattle.answers.proofs.TestLaws.{go-on, refused-early}
+use Rattle.answers.proofs.TestLaws.{clear-first, clear-parts, go-on, of-unless, refused-early}
 use Rattle.gpos.specs.code.Checked.{SlotsChecked}
 use Rattle.gpos.specs.code.Neighbours.{badPlace}
 use Rattle.gpos.specs.Checks.{applying, badScale, slotTests}
@@ -75,6 +75,15 @@ module _ (p : Parts) (z : ℕ) (l : List ℕ) where
   refused-by r e looked =
       outcome-refused z l (answerTo (callOf p) z l) (callOf p .leaves ss) (refusalNumber r)
       (refused-early (lastTests p ss) (core-says ss) ((badLine z l, 1) ∷ firstTests p ss) (refusalNumber r) (rw e at looked))
+
+  -- what holds of each refusal, and of what the core says where the index is in its place, holds of the answer
+  pub of-made : (P : Said → Type 0) → ((n : ℕ) → P (refused n)) → ((p .index < length ss) × Near (length ss) (p .index) (p .beside) → P (core-says ss))
+      → {given : Said} {l′ : List ℕ} → Made (callOf p) z l given l′ → P given
+  of-made P refuses follows o =
+      let first : List (Bool × ℕ) = (badLine z l, 1) ∷ firstTests p ss in
+      rw (o .answer)
+      (of-unless P refuses (first ++ lastTests p ss) (core-says ss) (λ e.
+      follows (in-place (length ss) (p .index) (p .beside) (clear-first _ 5 ((not (p .good), 6) ∷ []) (clear-parts first (lastTests p ss) e .1) .0))))
 
   pub cleared : {x : Checked} (w : Shape) → x ≡ Slots w → Looked p z l x → Cleared p z l w
   cleared w e looked = clear z l (unless (firstTests p ss) done) w e looked

@@ -4,4 +4,4 @@ pub mod WalkLaws
 pub mod PlanLaws
 pub mod AttachmentLaws
 pub mod Examples
-pub mod HazardLaws
+pub mod SaidLaws

@@ -4,4 +4,4 @@ pub mod PlanLaws
 pub mod AdjustmentLaws
 pub mod Meaning
 pub mod Examples
-pub mod HazardLaws
+pub mod SaidLaws

@@ -1,3 +1,3 @@
 pub mod SinglePosLaws
 pub mod Examples
-pub mod HazardLaws
+pub mod SaidLaws

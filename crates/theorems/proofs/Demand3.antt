@@ -1,4 +1,4 @@
--- Demand 3 of the call: on a line that isn't refused and is bounded as the customer says, what gpos::finish leaves meets the demand. Assumes nothing.
+-- Demand 3 of the call: on a line that isn't refused and is bounded as demand 3 says, what gpos::finish leaves meets the demand. Assumes nothing.
 use mathlib.Core.Path.{_≡_, refl, sym, ap, _∙_, subst}
 use mathlib.Core.Bool.{Bool, true, false}
 use mathlib.Core.List.{List}

@@ -1,4 +1,6 @@
+pub mod Answers
 pub mod Hazards
+pub mod Next
 pub mod Demand3
 pub mod Results
 pub mod WorkedSums

@@ -1,4 +1,4 @@
--- There and back gives the same bytes, both ways: the second move is done, and what it leaves is the line that the first one moved. Assumes nothing.
+-- There and back, either way, changes no byte: the second move is done, and what it leaves is the line that the first one moved. Assumes nothing.
 use mathlib.Core.Path.{_≡_, refl, sym, ap, _∙_, subst}
 use mathlib.Core.Bool.{Bool, false, not, _||_}
 use mathlib.Core.List.{List, [], _∷_, map}

@@ -1,4 +1,4 @@
--- The worked sums P1 to P11 of document 01, as one table: what the definitions give, by what the calls leave, and what document 01 gives. Assumes nothing.
+-- The worked sums P1 to P11 of docs/RULES.md, as one table: what the definitions give, by what the calls leave, and what the rules give. Assumes nothing.
 use mathlib.Core.Path.{_≡_, refl}
 use mathlib.Core.Bool.{Bool, true, false}
 use mathlib.Core.List.{List, [], _∷_, _++_, map}
@@ -150,43 +150,43 @@ finish z limit ss = result (finishCall 0 limit true) z (bytes z ss)
 -- ---- the table, for slots of z bytes
 abbrev pub table : ℕ → List Row
 table z =
-    -- P1 s 500, u 1000: 3 becomes 2, -3 becomes -1.
+    -- P1: at s 500 and u 1000 the values 3 and -3 are 2 and -1
     row (single z 500 1000 5 (values (pos 3 ∷ minus 3 ∷ [])) 0)
     (becomes 500 1000 (pos 3) (pos 2) ∷ becomes 500 1000 (minus 3) (minus 1) ∷ xOffset 0 (pos 2) ∷ xAdvance 0 (minus 1) ∷ [])
-    -- P2 Format 5, bytes FF F6 00 14: direction 0 gives x offset -10, x advance +20; direction 2 the offset only, worked.
+    -- P2: the record FF F6 00 14 of format 5: in direction 0 -10 for the x offset, 20 for the x advance; in direction 2 only the first; it has worked in both
     ∷ row (single z 1000 1000 5 record-P2 0)
     (xOffset 0 (minus 10) ∷ xAdvance 0 (pos 20) ∷ worked 0 5 record-P2 true ∷ [])
     ∷ row (single z 1000 1000 5 record-P2 2)
     (xOffset 0 (minus 10) ∷ xAdvance 0 (pos 0) ∷ yAdvance 0 (pos 0) ∷ worked 2 5 record-P2 true ∷ [])
-    -- P3 Format 4, value 20, direction 2: nothing, not worked.
+    -- P3: by format 4 the value 20 changes no field in direction 2, and has not worked
     ∷ row (single z 1000 1000 4 (values (pos 20 ∷ [])) 2)
     (xOffset 0 (pos 0) ∷ yOffset 0 (pos 0) ∷ xAdvance 0 (pos 0) ∷ yAdvance 0 (pos 0) ∷ worked 2 4 (values (pos 20 ∷ [])) false ∷ [])
-    -- P4 Format 8, value 20, direction 2: y advance -20.
+    -- P4: by format 8 it adds -20 to the y advance there
     ∷ row (single z 1000 1000 8 (values (pos 20 ∷ [])) 2) (yAdvance 0 (minus 20) ∷ [])
-    -- P5 Pair 0,1, formats 4 and 0, -50, direction 0: next 1, break [0,2). With 0 in place of -50: concat [0,2), still applied.
+    -- P5: slots 0 and 1 by formats 4 and 0 in direction 0: next 1; with the value -50 unsafe to break [0,2), with 0 unsafe to concatenate there, but applied
     ∷ row (pair z 4 0 (values (minus 50 ∷ []))) (says (applied 1 (unsafeToBreak 0 2 ∷ []) false) ∷ [])
     ∷ row (pair z 4 0 (values (pos 0 ∷ []))) (says (applied 1 (unsafeToConcat 0 2 ∷ []) false) ∷ [])
-    -- P6 Formats 4 and 4, -50 and 0, two slots: break [0,2), break [0,3), next 2.
+    -- P6: the same two slots by formats 4 and 4, values -50 and 0: next 2, unsafe to break [0,2) and [0,3), though the line ends at 2
     ∷ row (pair z 4 4 (values (minus 50 ∷ pos 0 ∷ []))) (says (applied 2 (unsafeToBreak 0 2 ∷ unsafeToBreak 0 3 ∷ []) false) ∷ [])
-    -- P7 Cursive 0,1, direction 0, flag clear, exit (500,20), entry (30,5), advances 600, offsets 0: slot 0 advance 500; slot 1 advance 570, x offset -30,
-    -- y offset 15, chain -1.
+    -- P7: slot 1 joined to slot 0, direction 0, RIGHT_TO_LEFT not set, by exit (500,20) and entry (30,5); x advances 600, offsets 0. Then slot 0 has x advance
+    -- 500, slot 1 x advance 570, offsets -30 and 15, chain -1
     ∷ row (cursive z (wide 5 600 ∷ wide 6 600 ∷ []) 0 1 0)
     (xAdvance 0 (pos 500) ∷ xAdvance 1 (pos 570) ∷ xOffset 1 (minus 30) ∷ yOffset 1 (pos 15) ∷ chain 1 (minus 1) ∷ [])
-    -- P8 Direction 0, three slots, RIGHT_TO_LEFT set, 1 attaching to 2, slot 1 cursive with chain -1 and y offset 8, other chains 0: slot 0 ends with y offset
-    -- -8, chain 1. (The anchors of P7.)
+    -- P8: slot 1 hangs on slot 0, cursive, by chain -1 with y offset 8; slots 0 and 2 hang on nothing. Slot 2 joined to slot 1, direction 0, with RIGHT_TO_LEFT,
+    -- by the anchors of P7: slot 1 hangs on slot 2, and slot 0 on slot 1, with y offset -8 and chain 1
     ∷ row (cursive z (hanging 4 0 (pos 0) 0 ∷ hanging 5 2 (minus 1) 8 ∷ hanging 6 0 (pos 0) 0 ∷ []) 1 2 1) (yOffset 0 (minus 8) ∷ chain 0 (pos 1) ∷ [])
-    -- P9 Three components, equal ids: mark component 2 uses index 1; 5 and 0 use 2. (The mark's x offset is the index, by the anchors.)
+    -- P9: of three components a mark of the ligature's id goes to index 1 if its component is 2, to index 2 if it is 5 or 0; its x offset is the index
     ∷ row (markLigature z 2) (component 1 ∷ xOffset 1 (pos 1) ∷ [])
     ∷ row (markLigature z 5) (component 2 ∷ xOffset 1 (pos 2) ∷ [])
     ∷ row (markLigature z 0) (component 2 ∷ xOffset 1 (pos 2) ∷ [])
-    -- P10 Finishing, direction 0, limit 64, two cursive slots pointing at each other, y offsets 5 and 7: 17 and 12.
+    -- P10: two slots, both cursive, that hang on each other, with y offsets 5 and 7, finished in direction 0 with limit 64: 17 and 12
     ∷ row (finish z 64 (hanging 0 2 (pos 1) 5 ∷ hanging 0 2 (minus 1) 7 ∷ [])) (yOffset 0 (pos 17) ∷ yOffset 1 (pos 12) ∷ [])
-    -- P11 Cursive 0 to 1 to 2, y offsets 1, 2, 4, direction 0: limit 1 gives 3, 2, 4; limit 2 gives 7, 6, 4.
+    -- P11: slot 0 hangs on slot 1 and that on slot 2, both cursive, with y offsets 1, 2, 4; finished in direction 0: 3, 2, 4 with limit 1, 7, 6, 4 with limit 2
     ∷ row (finish z 1 (hanging 0 2 (pos 1) 1 ∷ hanging 0 2 (pos 1) 2 ∷ hanging 0 0 (pos 0) 4 ∷ [])) (yOffset 0 (pos 3) ∷ yOffset 1 (pos 2) ∷ yOffset 2 (pos 4) ∷ [])
     ∷ row (finish z 2 (hanging 0 2 (pos 1) 1 ∷ hanging 0 2 (pos 1) 2 ∷ hanging 0 0 (pos 0) 4 ∷ [])) (yOffset 0 (pos 7) ∷ yOffset 1 (pos 6) ∷ yOffset 2 (pos 4) ∷ [])
     ∷ []
 
--- each figure by the definitions is the one that document 01 gives, with clusters and without
+-- each figure by the definitions is the one that the rules give, with clusters and without
 pub worked-sums : (map (λ (x : Row). x .found) (table 24) ≡ map (λ (x : Row). x .given) (table 24))
     × (map (λ (x : Row). x .found) (table 28) ≡ map (λ (x : Row). x .given) (table 28))
 unfolding natAt digits pattern intAt signed clamp32 floorDiv scaled stepwise bit tally some bytes plainBytes slotOf slots slotsN update parent

@@ -1,1 +1,2 @@
 pub mod Clusters  -- no call looks at a cluster or writes one
+pub mod Next  -- where a call that is applied says to go on
