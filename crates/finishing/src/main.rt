@@ -1,6 +1,8 @@
-// The finishing program: reads a line on standard input to its end, finishes it left to right with nesting limit 64,
-// and prints its slots, or the number of the refusal. The buffer holds more than the longest line, so that a longer
-// input is refused and never cut.
+// The finishing program: takes all of standard input as a line, finishes it left to right with nesting limit 64, and
+// prints its slots, or the number of the refusal. The buffer holds more than the longest line, so that a longer input
+// is refused and never cut.
+mod usage; // what it says of itself
+
 use answers::Done;
 use libc::STDIN_FILENO;
 use slots::shape::Cut;
@@ -44,9 +46,20 @@ fn finish(line: &mut [u8])
     }
 }
 
-fn main() {
+fn finish_input() {
     let mut space = io::large_buffer();
     let all: &mut [u8] = &mut space;
     let n = io::read_full(STDIN_FILENO, all);
     finish(&mut all[..n]);
+}
+
+// An argument asks for help, or is a file's name by mistake: the input stays unread, since whoever gives one didn't
+// mean what comes on standard input.
+fn main() {
+    if os::arg_count() > 1 {
+        usage::say_use();
+        return;
+    }
+    usage::say_waiting_at_terminal();
+    finish_input();
 }
