@@ -1,63 +1,224 @@
-/* Positions a label of three glyphs, a base and two marks: starts the line, adjusts the base, attaches the marks and finishes. */
+/* A label from right to left, from shaped glyphs to drawn places: the Persian word for rooms,
+   ghurfa-ha, with a vowel mark, two kerned pairs and a ZWNJ. docs/GUIDE.md explains the code. */
 #include "words.h"
 
-enum { SLOTS = 3, SIZE = GPOS_PLAIN_SIZE, BASE = 36, ABOVE = 501, BELOW = 502 };
+#include <stdbool.h>
 
-/* SinglePos format 1: value format 4, x advance +25 for the base. */
-static const uint8_t wider[] = {
-    U16(1), U16(8), U16(4), U16(25), /* the coverage is at 8 */
-    U16(1), U16(1), U16(BASE),
+/* Glyph numbers of a font that is made up here. */
+enum { ZWNJ = 3, GHAIN = 10, REH, FEH, HEH_FINAL, HEH_INITIAL, ALEF, DAMMA = 50 };
+
+/* What the label is set in: 1000 units of the font make one em, and 500 of the panel's. */
+enum { UNITS_PER_EM = 1000, EM_SIZE = 500 };
+static const uint32_t direction = GPOS_DIRECTION_RIGHT_TO_LEFT;
+
+/* ---- What the shaper gives: glyphs in reading order, after substitution */
+
+enum { BASE = 1, LIGATURE = 2, MARK = 3 }; /* classes of GDEF */
+enum { KERN = 1, MARKS = 2 };              /* features, a bit each */
+
+static const struct {
+    const char *name;
+    uint16_t glyph;
+    int32_t advance;   /* in units of the font */
+    int gdef_class;    /* 0 if GDEF has none */
+    bool ignorable;    /* a default ignorable that no substitution has replaced */
+    uint32_t features; /* those that are on at this glyph */
+} glyphs[] = {
+    {"ghain", GHAIN, 600, BASE, false, KERN | MARKS},
+    {"damma", DAMMA, 200, MARK, false, KERN | MARKS},
+    {"reh", REH, 400, BASE, false, KERN | MARKS},
+    {"feh", FEH, 800, BASE, false, KERN | MARKS},
+    {"heh", HEH_FINAL, 500, BASE, false, KERN | MARKS},
+    {"ZWNJ", ZWNJ, 120, BASE, true, KERN | MARKS},
+    {"heh", HEH_INITIAL, 560, BASE, false, KERN | MARKS},
+    {"alef", ALEF, 240, BASE, false, KERN | MARKS},
+};
+enum { COUNT = sizeof glyphs / sizeof *glyphs, SIZE = GPOS_PLAIN_SIZE };
+
+static uint8_t line[COUNT * SIZE];
+
+static uint8_t *slot(size_t i) { return gpos_slot_at(line, SIZE, i); }
+
+/* ---- What the font has: lookups, in the order of its lookup list */
+
+/* PairPos format 1. Right to left a pair is moved together by the first glyph's x placement and x
+   advance alike, so the value formats are 5 and 0. */
+static const uint8_t kern_pairs[] = {
+    /*  0 */ U16(1), U16(14),               /* format, coverage at 14 */
+    /*  4 */ U16(5), U16(0),                /* value formats */
+    /*  8 */ U16(2), U16(22), U16(30),      /* two pair sets, at 22 and 30 */
+    /* 14 */ COVERAGE_2(REH, HEH_FINAL),    /* the first glyphs */
+    /* 22 */ U16(1), U16(FEH), U16(-60), U16(-60),
+    /* 30 */ U16(1), U16(HEH_INITIAL), U16(20), U16(20),
 };
 
-/* MarkBasePos format 1: two marks of two classes, one base. */
-static const uint8_t marks[] = {
-    U16(1), U16(12), U16(20), U16(2), U16(26), U16(48), /* coverages at 12 and 20, two classes, arrays at 26 and 48 */
-    U16(1), U16(2), U16(ABOVE), U16(BELOW),             /* the marks */
-    U16(1), U16(1), U16(BASE),                          /* the bases */
-    U16(2), U16(0), U16(10), U16(1), U16(16),           /* class and anchor of each mark */
-    ANCHOR(20, 0),
-    ANCHOR(20, 30),
-    U16(1), U16(6), U16(12), /* the base's anchor for each class */
-    ANCHOR(300, 700),
-    ANCHOR(280, -50),
+/* MarkBasePos format 1, of one class of marks. */
+static const uint8_t vowels_on_letters[] = {
+    /*  0 */ U16(1), U16(12), U16(18),      /* format, coverages at 12 and 18 */
+    /*  6 */ U16(1), U16(24), U16(36),      /* one class, mark array at 24, base array at 36 */
+    /* 12 */ COVERAGE(DAMMA),
+    /* 18 */ COVERAGE(GHAIN),
+    /* 24 */ U16(1), U16(0), U16(6),        /* one mark: its class, its anchor 6 farther on */
+    /* 30 */ ANCHOR(100, 0),
+    /* 36 */ U16(1), U16(4),                /* one base: its anchor 4 farther on */
+    /* 40 */ ANCHOR(320, 700),
 };
 
-static uint8_t line[SLOTS * SIZE];
+typedef struct {
+    uint32_t type, flag, feature;
+    size_t subtable_count;
+    struct {
+        const uint8_t *bytes;
+        size_t len; /* gpos_subtable_len, in a font */
+    } subtables[1]; /* as many as the lookup has: here one */
+} lookup;
 
-static void show(const char *what) {
-    puts(what);
-    for (int i = 0; i < SLOTS; i++) {
-        gpos_slot slot = gpos_get_slot(gpos_slot_at(line, SIZE, i));
-        printf("  %d: glyph %3d  advance %d %d  offset %d %d  type %d chain %d\n", i, slot.glyph, slot.x_advance, slot.y_advance, slot.x_offset, slot.y_offset,
-               slot.type, slot.chain);
+static const lookup lookups[] = {
+    {2, GPOS_LOOKUP_IGNORE_MARKS, KERN, 1, {{kern_pairs, sizeof kern_pairs}}},
+    {4, 0, MARKS, 1, {{vowels_on_letters, sizeof vowels_on_letters}}},
+};
+enum { LOOKUPS = sizeof lookups / sizeof *lookups };
+
+/* ---- Filling the slots */
+
+/* Rounded as the library rounds; for numbers that aren't negative. */
+static int32_t scaled(int64_t v) {
+    return (int32_t)((2 * v * EM_SIZE + UNITS_PER_EM) / (2 * UNITS_PER_EM));
+}
+
+static void fill(void) {
+    for (size_t i = 0; i < COUNT; i++) {
+        gpos_slot s = {0};
+        s.glyph = glyphs[i].glyph;
+        s.flags = glyphs[i].gdef_class == MARK ? GPOS_SLOT_MARK : 0;
+        s.x_advance = scaled(glyphs[i].advance);
+        gpos_put_slot(slot(i), s);
+    }
+}
+
+/* ---- One lookup over the line */
+
+static bool in_feature(const lookup *l, size_t i) { return glyphs[i].features & l->feature; }
+
+/* Whether the lookup's flag skips the glyph. A font may also choose marks, by class or by set
+   (GPOS_LOOKUP_MARK_ATTACHMENT_CLASS, GPOS_LOOKUP_USE_MARK_FILTERING_SET): then the others are
+   skipped too. */
+static bool skips(const lookup *l, size_t i) {
+    switch (glyphs[i].gdef_class) {
+    case BASE: return l->flag & GPOS_LOOKUP_IGNORE_BASES;
+    case LIGATURE: return l->flag & GPOS_LOOKUP_IGNORE_LIGATURES;
+    case MARK: return l->flag & GPOS_LOOKUP_IGNORE_MARKS;
+    default: return false;
+    }
+}
+
+/* For lookups of type 4 and 5: which glyphs a mark's base is looked for among. (This label has no
+   ZWJ, which stays seen in the features mark and mkmk.) */
+static void set_seen(const lookup *l) {
+    for (size_t i = 0; i < COUNT; i++) {
+        gpos_slot s = gpos_get_slot(slot(i));
+        bool hidden = glyphs[i].gdef_class == MARK || glyphs[i].ignorable || !in_feature(l, i);
+        s.flags = (uint8_t)((s.flags & ~GPOS_SLOT_SEEN) | (hidden ? 0 : GPOS_SLOT_SEEN));
+        gpos_put_slot(slot(i), s);
+    }
+}
+
+typedef struct {
+    uint32_t missing;
+    size_t slot; /* or how far was looked */
+} neighbour;
+
+/* The second glyph of a pair. */
+static neighbour next_of(const lookup *l, size_t i) {
+    for (size_t j = i + 1; j < COUNT; j++) {
+        if (skips(l, j) || glyphs[j].ignorable) continue;
+        if (in_feature(l, j)) return (neighbour){GPOS_NEIGHBOUR_NAMED, j};
+        return (neighbour){GPOS_NEIGHBOUR_MISSING, j + 1};
+    }
+    return (neighbour){GPOS_NEIGHBOUR_MISSING, COUNT};
+}
+
+/* The glyph that a cursive one joins. */
+static neighbour previous_of(const lookup *l, size_t i) {
+    for (size_t j = i; j-- > 0;) {
+        if (skips(l, j) || glyphs[j].ignorable) continue;
+        if (in_feature(l, j)) return (neighbour){GPOS_NEIGHBOUR_NAMED, j};
+        return (neighbour){GPOS_NEIGHBOUR_MISSING, j > 0 ? j - 1 : 0};
+    }
+    return (neighbour){GPOS_NEIGHBOUR_MISSING, 0};
+}
+
+#define AT(i) line, sizeof line, SIZE, bytes, len, direction, EM_SIZE, UNITS_PER_EM, i
+
+static gpos_answer apply_subtable(const lookup *l, const uint8_t *bytes, size_t len, size_t i) {
+    neighbour n;
+    switch (l->type) {
+    case 1: return gpos_single(AT(i));
+    case 2: n = next_of(l, i); return gpos_pair(AT(i), n.missing, n.slot);
+    case 3: n = previous_of(l, i); return gpos_cursive(AT(i), n.missing, n.slot, l->flag);
+    case 4: return gpos_mark_base(AT(i));
+    default: return gpos_mark_ligature(AT(i));
+    }
+}
+
+/* Tries the lookup's subtables at slot i. Says where to go on, and notes whether one attached. */
+static size_t apply_at(const lookup *l, size_t i, bool *attached) {
+    for (size_t k = 0; k < l->subtable_count; k++) {
+        gpos_answer a = apply_subtable(l, l->subtables[k].bytes, l->subtables[k].len, i);
+        if (a.status == GPOS_STATUS_APPLIED) {
+            *attached |= a.attached;
+            return a.next;
+        }
+        /* Declined, or the font is bad: passed over. Other refusals are this program's mistake. */
+        if (a.refusal != GPOS_REFUSED_SUBTABLE && a.refusal != GPOS_REFUSED_ENDLESS)
+            must("applying", a.refusal);
+    }
+    return i + 1;
+}
+
+static void apply_lookup(const lookup *l, bool *attached) {
+    if (l->type < 1 || l->type > 5) return; /* not in the library */
+    if (l->type >= 4) set_seen(l);
+    for (size_t i = 0; i < COUNT;)
+        i = in_feature(l, i) && !skips(l, i) ? apply_at(l, i, attached) : i + 1;
+}
+
+/* ---- After the lookups */
+
+static void clear_advances(void) {
+    for (size_t i = 0; i < COUNT; i++) {
+        gpos_slot s = gpos_get_slot(slot(i));
+        if (glyphs[i].gdef_class == MARK || glyphs[i].ignorable) s.x_advance = s.y_advance = 0;
+        gpos_put_slot(slot(i), s);
+    }
+}
+
+/* A panel would paint here. */
+static void draw_glyph(size_t i, int64_t x, int64_t y) {
+    printf("%zu %-5s at %4ld %3ld\n", i, glyphs[i].name, (long)x, (long)y);
+}
+
+static void draw(void) {
+    int64_t x = 0, y = 0; /* the pen: where the label begins, at its left or top */
+    bool backward = direction == GPOS_DIRECTION_RIGHT_TO_LEFT ||
+                    direction == GPOS_DIRECTION_BOTTOM_TO_TOP;
+    for (size_t k = 0; k < COUNT; k++) {
+        size_t i = backward ? COUNT - 1 - k : k;
+        gpos_slot s = gpos_get_slot(slot(i));
+        if (!glyphs[i].ignorable) draw_glyph(i, x + s.x_offset, y + s.y_offset);
+        x += s.x_advance;
+        y += s.y_advance;
     }
 }
 
 int main(void) {
-    gpos_slot base = {.glyph = BASE, .flags = GPOS_SEEN, .x_advance = 600};
-    gpos_slot mark = {.glyph = ABOVE, .flags = GPOS_MARK, .type = GPOS_TYPE_CURSIVE, .chain = 1}; /* an old attachment */
-    gpos_put_slot(gpos_slot_at(line, SIZE, 0), base);
-    gpos_put_slot(gpos_slot_at(line, SIZE, 1), mark);
-    mark.glyph = BELOW;
-    gpos_put_slot(gpos_slot_at(line, SIZE, 2), mark);
-    show("the line as it came");
-    say_done("gpos_start", gpos_start(line, sizeof line, SIZE));
-
-    uint32_t attached = 0;
-    /* A lookup at a time, each of one subtable; where it was applied, the answer says where to go on. */
-    for (size_t i = 0; i < SLOTS;) {
-        gpos_answer a = gpos_single(line, sizeof line, SIZE, wider, sizeof wider, GPOS_LEFT_TO_RIGHT, 1000, 1000, i);
-        say("gpos_single", a);
-        i = a.status == GPOS_APPLIED ? a.next : i + 1;
-    }
-    for (size_t i = 0; i < SLOTS;) {
-        gpos_answer a = gpos_mark_base(line, sizeof line, SIZE, marks, sizeof marks, GPOS_LEFT_TO_RIGHT, 1000, 1000, i);
-        say("gpos_mark_base", a);
-        attached |= a.attached;
-        i = a.status == GPOS_APPLIED ? a.next : i + 1;
-    }
-    show("adjusted and attached: offsets count from the base");
-    say_done("gpos_finish", gpos_finish(line, sizeof line, SIZE, GPOS_LEFT_TO_RIGHT, GPOS_NESTING_LIMIT, attached));
-    show("finished: offsets count from the pen");
+    bool attached = false;
+    fill();
+    must("gpos_start", gpos_start(line, sizeof line, SIZE));
+    for (size_t k = 0; k < LOOKUPS; k++) apply_lookup(&lookups[k], &attached);
+    clear_advances();
+    must("gpos_finish",
+         gpos_finish(line, sizeof line, SIZE, direction, GPOS_NESTING_LIMIT, attached));
+    draw();
     return 0;
 }

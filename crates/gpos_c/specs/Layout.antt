@@ -65,7 +65,7 @@ flag false = 0
 -- an answer by its status, the number of its refusal, whether it attached, the next index and its hazards
 abbrev pub laid : ℕ → ℕ → ℕ → ℕ → Hazards → CAnswer
 laid s r a n hs =
-    record { status = s; refusal = r; attached = a; hazards = listOf hs .count; next = n; hazard = listOf hs .hazard }
+    record { status = s; refusal = r; attached = a; count = listOf hs .count; next = n; hazard = listOf hs .hazard }
 
 -- an applying call: status 1 applied, 2 declined, 3 refused; what a case doesn't have is 0
 abbrev pub toC : Answer → CAnswer

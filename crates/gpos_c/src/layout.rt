@@ -23,7 +23,7 @@ pub struct CAnswer {
     pub status: u32,
     pub refusal: u32,
     pub attached: u32,
-    pub hazards: u32,
+    pub count: u32,
     pub next: usize,
     pub hazard: [CHazard; 2],
 }
@@ -138,7 +138,7 @@ pub fn laid(status: u32, refusal: u32, attached: u32, next: usize, hazards: Haza
         status: status,
         refusal: refusal,
         attached: attached,
-        hazards: list.count,
+        count: list.count,
         next: next,
         hazard: two,
     }
