@@ -1,4 +1,11 @@
-//! The functions for C, as include/gpos.h declares it.
+//! The functions for C, as include/gpos.h declares them.
+
+pub const APPLIED: u32 = 1;
+pub const DECLINED: u32 = 2;
+pub const REFUSED: u32 = 3;
+
+pub const UNSAFE_TO_BREAK: u32 = 1;
+pub const UNSAFE_TO_CONCAT: u32 = 2;
 
 #[repr(C)]
 #[derive(Clone, Copy)]
@@ -9,18 +16,26 @@ pub struct Hazard {
 }
 
 #[repr(C)]
+#[derive(Clone, Copy)]
 pub struct Answer {
     pub status: u32,
     pub refusal: u32,
     pub attached: u32,
-    pub hazards: u32,
+    pub hazard_count: u32,
     pub next: usize,
     pub hazard: [Hazard; 2],
 }
 
 extern "C" {
     pub fn gpos_start(line: *mut u8, line_len: usize, slot_size: usize) -> u32;
-    pub fn gpos_finish(line: *mut u8, line_len: usize, slot_size: usize, direction: u32, nesting_limit: u32, attachments: u32) -> u32;
+    pub fn gpos_finish(
+        line: *mut u8,
+        line_len: usize,
+        slot_size: usize,
+        direction: u32,
+        nesting_limit: u32,
+        attachments: u32,
+    ) -> u32;
     pub fn gpos_to_clusters(line: *const u8, line_len: usize, target: *mut u8, target_len: usize) -> u32;
     pub fn gpos_from_clusters(line: *const u8, line_len: usize, target: *mut u8, target_len: usize) -> u32;
 }
@@ -31,7 +46,7 @@ macro_rules! applying {
         extern "C" {
             $(pub fn $name(
                 line: *mut u8, line_len: usize, slot_size: usize, subtable: *const u8, subtable_len: usize,
-                direction: u32, s: u32, u: u32, index: usize, $($own: $t),*
+                direction: u32, em_size: u32, units_per_em: u32, index: usize, $($own: $t),*
             ) -> Answer;)*
         }
     };

@@ -1,237 +1,292 @@
 //! Glyph positioning (OpenType GPOS) on lines of glyph slots.
 //!
-//! A label is a *line*: up to 1,024 [`Slot`]s, as bytes that you lend. Its [`Form`] says whether a slot has 24 bytes, or 28 with a *cluster*: which letter its
-//! glyph came from. A call starts a line, applies one GPOS subtable at one glyph, or finishes the line; two more move a line to the other form. No call
-//! of the library allocates or panics: every argument may have any value, and what is out of range is a [`Refusal`].
+//! A label, or each run of it that has one font, one script and one direction, is a *line*: up to 1,024 [`Slot`]s, as
+//! bytes that you lend. Its [`Form`] says whether a slot has 24 bytes, or 28 with a *cluster*: which letter its glyph
+//! came from. A call starts a line, applies one GPOS subtable at one glyph, or finishes the line; two more move a line
+//! to the other form. Every argument may have any value: what is out of range is a [`Refusal`]. No call of the library
+//! allocates, and none panics.
 //!
-//! ```no_run
-//! use gpos::{finish, line_of, mark_base, slots_of, start, At, Direction, Form, Outcome, Scale, Slot, NESTING_LIMIT};
+//! [`guide`] goes from shaped glyphs to a drawn label, in the words of the functions for C that this package wraps. The
+//! package's `examples/label.rs` is the same label in Rust, to begin with or to copy from.
+//!
+//! # What is here, and what is not
+//!
+//! | lookup type | call |
+//! |---|---|
+//! | 1, single adjustment | [`single`] |
+//! | 2, pair adjustment | [`pair`] |
+//! | 3, cursive attachment | [`cursive`] |
+//! | 4, mark to base | [`mark_base`] |
+//! | 5, mark to ligature | [`mark_ligature`] |
+//! | 6, mark to mark; 7 and 8, contextual | none: labels whose lookups have these types come out incomplete |
+//! | 9, extension | none: unwrap it, and apply the subtable to which it leads by that one's type |
+//!
+//! - Device tables and variation deltas are not applied.
+//! - The advances of marks and of default ignorables are not set to 0. If your shaper does that, as most do, then after
+//!   the last lookup and before [`finish`].
+//! - There is one [`Scale`] for x and y, and it is never negative.
+//! - Finding the font's lookups, and which glyphs a lookup's flag skips, is left to you.
+//!
+//! # The order of work
+//!
+//! 1. Write the slots, in reading order in every direction ([`write_slots`]), and [`start`] the line. [`Slot`] says
+//!    what its fields hold.
+//! 2. Take the lookups of all the features that you want together, each once, in the order of the font's lookup list,
+//!    and run each over the whole line before the next. Before one of type 4 or 5 set [`Slot::SEEN`], which says on
+//!    which glyphs marks may be put.
+//! 3. A lookup goes from index 0 on. At a glyph that is in its feature and that its flag doesn't skip, try its
+//!    subtables in order: the first that applies ends the turn, and its `next` says where to go on. If none does, go on
+//!    at the next slot. For a pair or a cursive attachment you name the [`Neighbour`]: the nearest glyph that the
+//!    lookup's flag doesn't skip and that is no default ignorable, if it is in the lookup's feature; one outside the
+//!    feature ends the search. On a refusal that [is the font's fault](Refusal::is_font_error) pass over that subtable;
+//!    on any other return the error, since the calling code has a mistake.
+//! 4. After the last lookup set the advances of marks and of default ignorables to 0, if your shaper does so. Then
+//!    [`finish`] the line, saying whether anything was attached.
+//! 5. Draw: each glyph at pen plus offset, and then the pen moves by the advances. Go from slot 0 up, or from the last
+//!    slot down where the direction is [backward](Direction::is_backward). Default ignorables aren't shown.
+//!
+//! A label of two glyphs, written from right to left, and a font with one lookup, which attaches marks to bases:
+//!
+//! ```
+//! use gpos::{finish, mark_base, slots_of, start, write_slots};
+//! use gpos::{At, Direction, Form, Outcome, Refusal, Scale, Slot, NESTING_LIMIT};
+//!
+//! const FORM: Form = Form::Plain;
+//! const DIRECTION: Direction = Direction::RightToLeft;
+//! const BASE: u16 = 36;
+//! const MARK: u16 = 501;
+//!
+//! /// Applies a lookup, whose flag skips some slots, from index 0 on; says whether it attached anything.
+//! fn apply(line: &mut [u8], subtables: &[&[u8]], skips: fn(usize) -> bool) -> Result<bool, Refusal> {
+//!     let scale = Scale { em_size: 1000, units_per_em: 2000 };
+//!     let (mut attachments, mut index) = (false, 0);
+//!     while index < line.len() / FORM.size() {
+//!         let at = At { direction: DIRECTION, scale, index };
+//!         index += 1;
+//!         if skips(at.index) {
+//!             continue;
+//!         }
+//!         for subtable in subtables {
+//!             match mark_base(line, FORM, subtable, at) {
+//!                 Ok(Outcome::Applied { next, attached, .. }) => {
+//!                     index = next;
+//!                     attachments |= attached;
+//!                     break;
+//!                 }
+//!                 Ok(Outcome::Declined { .. }) => {}
+//!                 Err(refusal) if refusal.is_font_error() => {} // pass over this subtable
+//!                 Err(refusal) => return Err(refusal),
+//!             }
+//!         }
+//!     }
+//!     Ok(attachments)
+//! }
 //!
 //! # fn main() -> Result<(), Box<dyn std::error::Error>> {
-//! # let subtable = [0u8; 8];
-//! // A letter, at index 7 of the text, and its mark.
-//! let letter = Slot { glyph: 36, flags: Slot::SEEN, x_advance: 600, cluster: Some(7), ..Slot::default() };
-//! let mark = Slot { glyph: 501, flags: Slot::MARK, cluster: Some(7), ..Slot::default() };
-//! let form = Form::Clustered;
-//! let mut line = line_of(form, &[letter, mark])?;
+//! // MarkBasePos format 1, as in the font: a mark with anchor (40, 0) and a base with anchor (600, 1400).
+//! let subtable: Vec<u8> = [
+//!     1, 12, 18, 1, 24, 36, // the format, where the coverages are, one class, where the arrays are
+//!     1, 1, MARK, // at 12: the marks
+//!     1, 1, BASE, // at 18: the bases
+//!     1, 0, 6, 1, 40, 0, // at 24: the mark's class, and its anchor
+//!     1, 4, 1, 600, 1400, // at 36: the base's anchor
+//! ]
+//! .into_iter()
+//! .flat_map(u16::to_be_bytes)
+//! .collect();
 //!
-//! let at = At { direction: Direction::LeftToRight, scale: Scale { size: 1000, units_per_em: 1000 }, index: 1 };
-//! start(&mut line, form)?;
-//! let mut attachments = false;
-//! if let Outcome::Applied { attached, .. } = mark_base(&mut line, form, &subtable, at)? {
-//!     attachments |= attached;
+//! let base = Slot { glyph: BASE, flags: Slot::SEEN, x_advance: 600, ..Slot::default() };
+//! let mark = Slot { glyph: MARK, flags: Slot::MARK, ..Slot::default() };
+//! let mut line = [0; 2 * FORM.size()];
+//! write_slots(&mut line, FORM, &[base, mark])?;
+//!
+//! start(&mut line, FORM)?;
+//! let attachments = apply(&mut line, &[&subtable], |_| false)?; // a flag of 0 skips none
+//! finish(&mut line, FORM, DIRECTION, NESTING_LIMIT, attachments)?;
+//!
+//! let mut drawn = Vec::new();
+//! let (mut x, mut y) = (0, 0);
+//! for slot in slots_of(&line, FORM).rev() {
+//!     drawn.push((slot.glyph, x + slot.x_offset, y + slot.y_offset));
+//!     x += slot.x_advance;
+//!     y += slot.y_advance;
 //! }
-//! finish(&mut line, form, Direction::LeftToRight, NESTING_LIMIT, attachments)?;
-//! for slot in slots_of(form, &line) {
-//!     println!("{:?}: glyph {}, offset {} {}", slot.cluster, slot.glyph, slot.x_offset, slot.y_offset);
-//! }
+//! assert_eq!(drawn, [(MARK, 280, 700), (BASE, 0, 0)]);
 //! # Ok(())
 //! # }
 //! ```
 //!
-//! The work is done by `libgpos_c.a`, which is proved to end, to stay inside what it is lent, and to answer and write exactly what its contracts say. This package
-//! is a thin safe wrapper of it, in Rust's own types, and not proved itself. The library is for x86-64 Linux, so a program or a test links only there; `cargo check` and
-//! `cargo doc` work anywhere.
+//! The package's `examples/label.rs` has what is left out here: features, glyphs that are passed over, neighbours, seen
+//! bits, advances that are set to 0.
+//!
+//! # Subtables
+//!
+//! Pass the bytes from the subtable's format field to the *end of the GPOS table*, since OpenType gives a subtable no
+//! length, and subtables may share parts that lie behind them; but the first 65,536 where there are more, as a longer
+//! slice is refused. [`subtable`] takes them from the table.
+//!
+//! # Stack and time
+//!
+//! [`cursive`] takes 328 bytes of stack and 80 for each slot of an old chain, 82,248 for one through 1,024 slots;
+//! [`finish`] takes up to 4,176, and the others took up to 464 where they were measured. Every call reads all slots,
+//! and an applying one every coverage and class list of its subtable, before it does anything: a call costs as much as
+//! they are long, even where it declines.
+//!
+//! # Linking
+//!
+//! The work is done by `libgpos_c.a`, which is proved to end, to stay inside what it is lent, and to answer and write
+//! exactly what its contracts say. This package is a thin safe wrapper of it, in Rust's own types, and not proved
+//! itself. The archive is for x86-64 Linux, so a program or a test links only there; `cargo check` and `cargo doc` work
+//! anywhere. It is looked for in the repository's target/staticlib, where `rt staticlib gpos_c` writes it, or in the
+//! folder that the variable `GPOS_LIB_DIR` names: an absolute one, since a relative one counts from this package and
+//! not from yours.
+//!
+//! The package needs no standard library. The feature `alloc`, on by default, holds `line_of` alone, which makes the
+//! bytes of a line as a `Vec`.
+#![no_std]
 #![warn(missing_docs)]
 
+#[cfg(feature = "alloc")]
+extern crate alloc;
+
+mod answer;
 mod ffi;
-#[allow(missing_docs)]
 mod slot;
 
-pub use slot::{line_of, slots_of, Form, Slot, WrongForm};
-use std::fmt;
-use std::ops::Range;
+#[doc = include_str!("../../docs/GUIDE.md")]
+pub mod guide {}
 
-/// The nesting limit that shapers use.
+pub use answer::{Hazard, HazardKind, Outcome, Refusal};
+#[cfg(feature = "alloc")]
+pub use slot::line_of;
+pub use slot::{put_slot, slot_at, slots_of, write_slots, Form, Slot, WrongForm};
+
+use answer::{done, outcome};
+
+/// The nesting limit that shapers use, and the highest that [`finish`] takes.
 pub const NESTING_LIMIT: u32 = 64;
+/// The most slots of a line.
+pub const MOST_SLOTS: usize = 1024;
+/// The most bytes of a subtable.
+pub const MOST_SUBTABLE: usize = 65_536;
 
-/// Why a call was refused. The lowest number that applies is given, and no byte of the line, or of the target of a move, has changed.
-#[derive(Clone, Copy, Debug, PartialEq, Eq, PartialOrd, Ord)]
+/// The direction of text. Slots are in reading order in every one; it says how the pen goes over them.
+#[derive(Clone, Copy, Debug, PartialEq, Eq, Hash)]
 #[repr(u32)]
-pub enum Refusal {
-    /// The line's length is no multiple of its form's size, or above 1,024 slots.
-    Line = 1,
-    /// The direction is above 3. This package can't ask for one.
-    Direction = 2,
-    /// The scale's size is not from 1 to 32,768, its units are not from 16 to 16,384, or the nesting limit is above 64.
-    Number = 3,
-    /// A slot's ligature id, component or spare flag bits are out of range.
-    Slot = 4,
-    /// The index is not in the line, or the neighbour is not where it must be.
-    Index = 5,
-    /// The subtable is over 65,536 bytes, cut, of unknown format, or has a bad list.
-    Subtable = 6,
-    /// A mark's base hangs on a chain of cursive attachments that never ends.
-    Endless = 7,
-    /// The target of a move is not exactly as long as the moved line; or, moving back, a cluster is not its slot's number and would be lost.
-    Move = 10,
-}
-
-impl Refusal {
-    /// Its number: 1 to 7, or 10.
-    pub fn number(self) -> u32 {
-        self as u32
-    }
-
-    fn of(number: u32) -> Self {
-        match number {
-            1 => Self::Line,
-            2 => Self::Direction,
-            3 => Self::Number,
-            4 => Self::Slot,
-            5 => Self::Index,
-            6 => Self::Subtable,
-            7 => Self::Endless,
-            10 => Self::Move,
-            _ => unreachable!("the library gives no other number"),
-        }
-    }
-}
-
-impl fmt::Display for Refusal {
-    fn fmt(&self, f: &mut fmt::Formatter<'_>) -> fmt::Result {
-        f.write_str(match self {
-            Self::Line => "the line is no whole number of slots, or more than 1,024",
-            Self::Direction => "the direction is unknown",
-            Self::Number => "the scale or the nesting limit is out of range",
-            Self::Slot => "a slot's ligature id, component or flags are out of range",
-            Self::Index => "the index or the neighbour is out of place",
-            Self::Subtable => "the subtable is too long, cut, of unknown format, or has a bad list",
-            Self::Endless => "a chain of attachments never ends",
-            Self::Move => "the target is not as long as the moved line, or a cluster would be lost",
-        })
-    }
-}
-
-impl std::error::Error for Refusal {}
-
-/// The direction of text.
-#[derive(Clone, Copy, Debug, PartialEq, Eq)]
-#[repr(u32)]
-#[allow(missing_docs)]
 pub enum Direction {
+    /// Horizontal, drawn from slot 0 up.
     LeftToRight = 0,
+    /// Horizontal, drawn from the last slot down.
     RightToLeft = 1,
+    /// Vertical, drawn from slot 0 up.
     TopToBottom = 2,
+    /// Vertical, drawn from the last slot down.
     BottomToTop = 3,
 }
 
-/// A design value v becomes floor((2 v size + units) / 2 units).
-#[derive(Clone, Copy, Debug, PartialEq, Eq)]
+impl Direction {
+    /// Whether slots are drawn from the last one down, and not from slot 0 up.
+    pub const fn is_backward(self) -> bool {
+        matches!(self, Self::RightToLeft | Self::BottomToTop)
+    }
+}
+
+/// From the font's design units to those of the line, alike for x and y.
+///
+/// A design value `v` becomes `floor((2 * v * em_size + units_per_em) / (2 * units_per_em))`, which is
+/// `v * em_size / units_per_em` to the nearest, halves upward.
+#[derive(Clone, Copy, Debug, PartialEq, Eq, Hash)]
 pub struct Scale {
-    /// 1 to 32,768
-    pub size: u32,
-    /// 16 to 16,384
+    /// How many units of the line's advances and offsets make one em, 1 to 32,768.
+    pub em_size: u32,
+    /// How many design units make one em, 16 to 16,384: unitsPerEm in the font's head table. A bad font may have
+    /// another number there: check it when the font is loaded.
     pub units_per_em: u32,
 }
 
-/// What would look different: a line broken in the range, or texts shaped apart and put together there.
-#[derive(Clone, Copy, Debug, PartialEq, Eq)]
-pub enum HazardKind {
-    /// Unsafe to break.
-    UnsafeToBreak,
-    /// Unsafe to concatenate.
-    UnsafeToConcat,
-}
-
-/// Glyphs that depend on each other. The range is as the lookup names it: it may reach past the line's end, and with a bound for a missing glyph it may be empty or
-/// even have its end before its start, so don't slice by it unchecked.
-#[derive(Clone, Debug, PartialEq, Eq)]
-#[allow(missing_docs)]
-pub struct Hazard {
-    pub kind: HazardKind,
-    pub range: Range<usize>,
-}
-
-/// What an applying call answers where it isn't refused.
-#[derive(Clone, Debug, PartialEq, Eq)]
-pub enum Outcome {
-    /// It was applied.
-    Applied {
-        /// The index at which to go on.
-        next: usize,
-        /// In the order in which they arise.
-        hazards: [Option<Hazard>; 2],
-        /// Whether a glyph was attached, so that [`finish`] has something to do.
-        attached: bool,
-    },
-    /// It was not, and no byte of the line has changed.
-    Declined {
-        /// What another text could have changed.
-        hazard: Option<Hazard>,
-    },
-}
-
-fn done(number: u32) -> Result<(), Refusal> {
-    if number == 0 {
-        Ok(())
-    } else {
-        Err(Refusal::of(number))
-    }
-}
-
-fn hazard(h: ffi::Hazard) -> Option<Hazard> {
-    let kind = match h.kind {
-        1 => HazardKind::UnsafeToBreak,
-        2 => HazardKind::UnsafeToConcat,
-        _ => return None,
-    };
-    Some(Hazard { kind, range: h.start..h.end })
-}
-
-fn outcome(a: ffi::Answer) -> Result<Outcome, Refusal> {
-    let [first, second] = a.hazard.map(hazard);
-    match a.status {
-        1 => Ok(Outcome::Applied { next: a.next, hazards: [first, second], attached: a.attached == 1 }),
-        2 => Ok(Outcome::Declined { hazard: first }),
-        _ => Err(Refusal::of(a.refusal)),
-    }
-}
-
-/// Starts a line: sets every chain and type to 0, and changes nothing else.
+/// Starts a line: sets every chain and attach type to 0, and changes nothing else.
+///
+/// Where that is forgotten, an attachment that the bytes still hold from an older label pulls a mark onto another
+/// letter. Offsets and advances stay as they are, so a line is filled anew for each label: with offsets of 0, and the
+/// advances of its glyphs.
+///
+/// # Errors
+///
+/// [`Refusal::Line`] (1) or [`Refusal::Slot`] (4).
 pub fn start(line: &mut [u8], form: Form) -> Result<(), Refusal> {
     // SAFETY: the library reads and writes these bytes alone, and keeps no pointer.
     done(unsafe { ffi::gpos_start(line.as_mut_ptr(), line.len(), form.size()) })
 }
 
-/// Finishes a line: turns attachments into offsets, parents first, and sets every chain to 0. At most `nesting_limit` parents are followed from a slot. Without
-/// attachments the line stays as it is.
-pub fn finish(line: &mut [u8], form: Form, direction: Direction, nesting_limit: u32, attachments: bool) -> Result<(), Refusal> {
+/// Finishes a line, once, after its last lookup: turns attachments into offsets, parents first, and sets every chain to
+/// 0.
+///
+/// A mark moves with its base, a cursive glyph across the line with its neighbour. At most `nesting_limit` parents, 0
+/// to 64, are followed from a slot: pass [`NESTING_LIMIT`].
+///
+/// `attachments` says whether any call attached. `true` is always right: it changes nothing where no slot is attached.
+/// `false` saves time where no call attached, and leaves the line as it is, chains too.
+///
+/// # Errors
+///
+/// [`Refusal::Line`] (1), [`Refusal::Range`] (3) or [`Refusal::Slot`] (4).
+pub fn finish(
+    line: &mut [u8],
+    form: Form,
+    direction: Direction,
+    nesting_limit: u32,
+    attachments: bool,
+) -> Result<(), Refusal> {
+    let (len, attachments) = (line.len(), attachments.into());
     // SAFETY: as in `start`.
-    done(unsafe { ffi::gpos_finish(line.as_mut_ptr(), line.len(), form.size(), direction as u32, nesting_limit, attachments.into()) })
+    done(unsafe { ffi::gpos_finish(line.as_mut_ptr(), len, form.size(), direction as u32, nesting_limit, attachments) })
 }
 
-/// Moves a [`Form::Plain`] line to a [`Form::Clustered`] target: the cluster of each slot is its number, from 0. The target must be exactly as long as
-/// the moved line: `line.len() / 24 * 28`. A refusal leaves it as it was.
+/// Moves a [`Form::Plain`] line to a [`Form::Clustered`] target: the cluster of each slot is its number, from 0. The
+/// target must have the length of the moved line, `line.len() / 24 * 28`.
+///
+/// # Errors
+///
+/// [`Refusal::Line`] (1), [`Refusal::Slot`] (4) or [`Refusal::Move`] (10). The target stays as it was.
 pub fn to_clusters(line: &[u8], target: &mut [u8]) -> Result<(), Refusal> {
     // SAFETY: as in `start`; the line is only read, and can't overlap a target that is lent to write.
     done(unsafe { ffi::gpos_to_clusters(line.as_ptr(), line.len(), target.as_mut_ptr(), target.len()) })
 }
 
-/// Moves a [`Form::Clustered`] line back to a [`Form::Plain`] target. A cluster that is not its slot's number would be lost, so it is refused with
-/// [`Refusal::Move`]. The target must be exactly as long as the moved line: `line.len() / 28 * 24`. A refusal leaves it as it was.
+/// Moves a [`Form::Clustered`] line back to a [`Form::Plain`] target, if each cluster is its slot's number: any other
+/// would be lost. The target must have the length of the moved line, `line.len() / 28 * 24`.
+///
+/// # Errors
+///
+/// [`Refusal::Line`] (1), [`Refusal::Slot`] (4) or [`Refusal::Move`] (10). The target stays as it was.
 pub fn from_clusters(line: &[u8], target: &mut [u8]) -> Result<(), Refusal> {
     // SAFETY: as in `to_clusters`.
     done(unsafe { ffi::gpos_from_clusters(line.as_ptr(), line.len(), target.as_mut_ptr(), target.len()) })
 }
 
 /// Where and how a subtable is applied: the arguments that all applying calls share.
-#[derive(Clone, Copy, Debug, PartialEq, Eq)]
+#[derive(Clone, Copy, Debug, PartialEq, Eq, Hash)]
 pub struct At {
     /// The direction of the line.
     pub direction: Direction,
     /// From design units to the line's.
     pub scale: Scale,
-    /// The slot at which to apply.
+    /// The slot at which to apply: for a mark attachment that of the mark.
     pub index: usize,
 }
 
-/// The other glyph of a pair or of a cursive attachment: the nearest that the lookup doesn't skip.
-#[derive(Clone, Copy, Debug, PartialEq, Eq)]
+/// The other glyph of a pair or of a cursive attachment: the nearest glyph that the lookup's flag doesn't skip and that
+/// is no default ignorable, if it is in the lookup's feature. One outside the feature ends the search, and there is
+/// none then.
+#[derive(Clone, Copy, Debug, PartialEq, Eq, Hash)]
 pub enum Neighbour {
-    /// It is in this slot.
+    /// It is in this slot: after the index for a pair, before it for a cursive attachment.
     Named(usize),
-    /// There is none, and this is how far the text was searched: the end for a pair, the start for a cursive attachment.
+    /// There is none, and this is how far was looked, at most the slot count. Only the hazard of the answer depends on
+    /// it: if you ignore hazards, pass the slot count for a pair and 0 for a cursive attachment.
+    ///
+    /// Exactly, it is for a pair one past the last slot that was looked at. For a cursive attachment it is 0; but where
+    /// a glyph outside the feature, at a slot i above 0, ended the search, it is i - 1.
     Missing(usize),
 }
 
@@ -244,8 +299,30 @@ impl Neighbour {
     }
 }
 
-/// The lookup flag that turns a cursive attachment round.
-pub const RIGHT_TO_LEFT: u32 = 1;
+/// A bit of a lookup's flag, the only one that a call looks at: it turns a [`cursive`] attachment round, so that the
+/// earlier glyph hangs on the later one. It has nothing to do with the direction of the text.
+pub const LOOKUP_RIGHT_TO_LEFT: u16 = 1;
+/// A bit of a lookup's flag: it skips bases, class 1 of GDEF. No call looks at it, nor at those below. They are yours
+/// to go by, where you choose the glyphs at which the lookup is applied and where you look for a [`Neighbour`].
+pub const LOOKUP_IGNORE_BASES: u16 = 2;
+/// A bit of a lookup's flag, for you to go by: it skips ligatures, class 2 of GDEF.
+pub const LOOKUP_IGNORE_LIGATURES: u16 = 4;
+/// A bit of a lookup's flag, for you to go by: it skips marks, class 3 of GDEF.
+pub const LOOKUP_IGNORE_MARKS: u16 = 8;
+/// A bit of a lookup's flag, for you to go by: it skips the marks that are not in the mark glyph set of GDEF that the
+/// lookup names.
+pub const LOOKUP_USE_MARK_FILTERING_SET: u16 = 16;
+/// The byte of a lookup's flag, for you to go by, that names a mark attachment class of GDEF. Unless it is 0, the
+/// lookup skips the marks of all other classes.
+pub const LOOKUP_MARK_ATTACHMENT_CLASS: u16 = 0xFF00;
+
+/// The bytes to pass of the subtable that begins at this offset of the font's GPOS table: from there to the end of the
+/// table, at most [`MOST_SUBTABLE`]. Past the end there are none, and a call that is passed none refuses them, with
+/// [`Refusal::Subtable`].
+pub fn subtable(gpos: &[u8], offset: usize) -> &[u8] {
+    let rest = gpos.get(offset..).unwrap_or_default();
+    rest.get(..MOST_SUBTABLE).unwrap_or(rest)
+}
 
 /// Calls the library with the arguments that all applying calls share, and the call's own.
 macro_rules! apply {
@@ -254,36 +331,96 @@ macro_rules! apply {
         outcome(unsafe {
             ffi::$name(
                 $line.as_mut_ptr(), $line.len(), $form.size(), $subtable.as_ptr(), $subtable.len(),
-                $at.direction as u32, $at.scale.size, $at.scale.units_per_em, $at.index $(, $own)*
+                $at.direction as u32, $at.scale.em_size, $at.scale.units_per_em, $at.index $(, $own)*
             )
         })
     };
 }
 
-/// Single adjustment (lookup type 1): adds a value record to the glyph. Declined where the glyph is uncovered or has no record.
+/// Single adjustment (lookup type 1): adds a value record to the glyph.
+///
+/// The placements are added to the offsets in every direction. In horizontal text the x advance is added, and a
+/// record's y advance isn't applied; in vertical text the x advance isn't, and the y advance, which counts downward, is
+/// subtracted. Sums stop at the ends of 32 bits. A record that the subtable's end cuts is applied and adds nothing.
+///
+/// Declined where the glyph is uncovered or has no record, without a hazard.
+///
+/// # Errors
+///
+/// [`Refusal::Line`] (1), [`Refusal::Range`] (3), [`Refusal::Slot`] (4), [`Refusal::Index`] (5) or
+/// [`Refusal::Subtable`] (6).
 pub fn single(line: &mut [u8], form: Form, subtable: &[u8], at: At) -> Result<Outcome, Refusal> {
     apply!(gpos_single, line, form, subtable, at)
 }
 
-/// Pair adjustment (lookup type 2): adds value records to the glyph and to the next one that the lookup doesn't skip.
+/// Pair adjustment (lookup type 2): adds value records to the glyph and to the second glyph, as [`single`] does.
+///
+/// You name the second glyph: search from the index up for the nearest glyph that the lookup's flag doesn't skip and
+/// that is no default ignorable, and take it if it is in the lookup's feature ([`Neighbour`]).
+///
+/// Declined where the glyph is uncovered or has no pair set, or the set is cut where the pair was looked for, without a
+/// hazard; where there is no second glyph or the pair has no record, with [`HazardKind::UnsafeToConcat`]. A pair whose
+/// values are zero is applied; so is one of format 1 whose records the subtable's end cuts, and a cut record adds
+/// nothing.
+///
+/// # Errors
+///
+/// [`Refusal::Line`] (1), [`Refusal::Range`] (3), [`Refusal::Slot`] (4), [`Refusal::Index`] (5) or
+/// [`Refusal::Subtable`] (6).
 pub fn pair(line: &mut [u8], form: Form, subtable: &[u8], at: At, second: Neighbour) -> Result<Outcome, Refusal> {
     let (missing, place) = second.numbers();
     apply!(gpos_pair, line, form, subtable, at, missing, place)
 }
 
-/// Cursive attachment (lookup type 3): joins the glyph's entry anchor to the exit anchor of the previous one that the lookup doesn't skip. Of the lookup flag
-/// only [`RIGHT_TO_LEFT`] is looked at.
-pub fn cursive(line: &mut [u8], form: Form, subtable: &[u8], at: At, previous: Neighbour, lookup_flag: u32) -> Result<Outcome, Refusal> {
+/// Cursive attachment (lookup type 3): joins the glyph's entry anchor to the exit anchor of the previous glyph.
+///
+/// You name the previous glyph: search from the index down, as for the second glyph of a [`pair`]. Of the lookup's flag
+/// only [`LOOKUP_RIGHT_TO_LEFT`] is looked at.
+///
+/// Declined where either glyph is uncovered or this one has no entry anchor, without a hazard; where there is no
+/// previous glyph or it has no exit anchor, with [`HazardKind::UnsafeToConcat`].
+///
+/// # Errors
+///
+/// [`Refusal::Line`] (1), [`Refusal::Range`] (3), [`Refusal::Slot`] (4), [`Refusal::Index`] (5) or
+/// [`Refusal::Subtable`] (6).
+pub fn cursive(
+    line: &mut [u8],
+    form: Form,
+    subtable: &[u8],
+    at: At,
+    previous: Neighbour,
+    lookup_flag: u16,
+) -> Result<Outcome, Refusal> {
     let (missing, place) = previous.numbers();
-    apply!(gpos_cursive, line, form, subtable, at, missing, place, lookup_flag)
+    apply!(gpos_cursive, line, form, subtable, at, missing, place, lookup_flag.into())
 }
 
-/// Mark-to-base attachment (lookup type 4): attaches the mark to the nearest base before it that is seen.
+/// Mark-to-base attachment (lookup type 4): attaches the mark to the nearest base before it that is [seen](Slot::SEEN).
+///
+/// Declined where the mark is uncovered, there is no base coverage, or an array or an anchor is missing, without a
+/// hazard; where no base is found or it is uncovered, with [`HazardKind::UnsafeToConcat`].
+///
+/// # Errors
+///
+/// [`Refusal::Line`] (1), [`Refusal::Range`] (3), [`Refusal::Slot`] (4), [`Refusal::Index`] (5), [`Refusal::Subtable`]
+/// (6) or [`Refusal::Endless`] (7).
 pub fn mark_base(line: &mut [u8], form: Form, subtable: &[u8], at: At) -> Result<Outcome, Refusal> {
     apply!(gpos_mark_base, line, form, subtable, at)
 }
 
-/// Mark-to-ligature attachment (lookup type 5): attaches the mark to its component of the nearest ligature before it that is seen.
+/// Mark-to-ligature attachment (lookup type 5): attaches the mark to a component of the nearest ligature before it that
+/// is [seen](Slot::SEEN).
+///
+/// A mark with the ligature's [id](Slot::ligature_id), not 0, and a [component](Slot::component) above 0 goes to that
+/// component, at most the last; any other mark goes to the last.
+///
+/// Declined as [`mark_base`] is, and with [`HazardKind::UnsafeToConcat`] where the ligature has no components.
+///
+/// # Errors
+///
+/// [`Refusal::Line`] (1), [`Refusal::Range`] (3), [`Refusal::Slot`] (4), [`Refusal::Index`] (5), [`Refusal::Subtable`]
+/// (6) or [`Refusal::Endless`] (7).
 pub fn mark_ligature(line: &mut [u8], form: Form, subtable: &[u8], at: At) -> Result<Outcome, Refusal> {
     apply!(gpos_mark_ligature, line, form, subtable, at)
 }

@@ -1,7 +1,12 @@
-use std::fmt;
+//! Slots, read from the bytes of a line and written to them.
+use core::fmt;
 
-/// What the slots of a line hold. A line doesn't show it (168 bytes may be seven slots of 24 or six of 28), so every call but a move is told.
-#[derive(Clone, Copy, Debug, PartialEq, Eq)]
+#[cfg(feature = "alloc")]
+use alloc::{vec, vec::Vec};
+
+/// What the slots of a line hold. A line doesn't show it (168 bytes may be seven slots of 24 or six of 28), so every
+/// call but a move is told.
+#[derive(Clone, Copy, Debug, PartialEq, Eq, Hash)]
 pub enum Form {
     /// Slots of 24 bytes.
     Plain,
@@ -10,7 +15,7 @@ pub enum Form {
 }
 
 impl Form {
-    /// Bytes of a slot.
+    /// Bytes of a slot: 24 or 28.
     pub const fn size(self) -> usize {
         match self {
             Self::Plain => 24,
@@ -19,109 +24,196 @@ impl Form {
     }
 }
 
-/// One glyph of a line: 24 or 28 bytes, numbers big-endian.
-#[derive(Clone, Copy, Debug, Default, PartialEq, Eq)]
+/// One glyph of a line: 24 or 28 bytes, numbers big-endian, in the order of these fields.
+///
+/// Before [`start`](crate::start) you set the glyph, its flags and its advances; its ligature id and component, where a
+/// substitution made a ligature or several glyphs of one; and in a [`Form::Clustered`] line its cluster. The other
+/// fields are 0, as by default; but in vertical text the offsets are minus the glyph's vertical origin, so that a mark
+/// goes by its base's origin.
+#[derive(Clone, Copy, Debug, Default, PartialEq, Eq, Hash)]
 pub struct Slot {
+    /// The glyph's number in the font.
     pub glyph: u16,
-    /// 0 to 7
+    /// 0 to 7: by it a mark knows its ligature. Where a substitution makes a ligature, the ligature and the marks that
+    /// stood between its components get the same id, another than the ligature before (1 to 7 in turn). Where a
+    /// ligature becomes part of a larger one, its marks get the new id. A ligature of marks alone keeps that of its
+    /// first mark, and glyphs made of one keep that of the one. All others have 0, a mark behind the last component
+    /// too.
     pub ligature_id: u8,
-    /// 0 to 15
+    /// 0 to 15. A ligature itself has 0, and a mark with its id the number of the component before it, from 1, counted
+    /// on where the ligature becomes part of a larger one. A ligature of marks alone keeps that of its first mark. Of
+    /// several glyphs that a substitution made of one with id 0, each has its place among them, from 0, modulo 16; of
+    /// one with another id, each keeps its component. All others have 0.
     pub component: u8,
-    /// [`Slot::SEEN`], [`Slot::MARK`], [`Slot::MULTIPLIED`]
+    /// [`Slot::SEEN`], [`Slot::MARK`], [`Slot::MULTIPLIED`]; the other bits are 0.
     pub flags: u8,
-    /// [`Slot::TYPE_MARK`], [`Slot::TYPE_CURSIVE`]; any byte is allowed
+    /// How the glyph is attached: 0, [`Slot::ATTACH_MARK`] or [`Slot::ATTACH_CURSIVE`]; any byte is allowed. Calls
+    /// write it.
     pub attach_type: u8,
-    /// 0 is "not attached", else the parent is this slot's number plus chain
+    /// 0 is "not attached", else the parent is this slot's number plus chain. Calls write it; once the line is finished
+    /// it is 0.
     pub chain: i16,
+    /// How far the glyph moves the pen to the right, in units of which [`Scale::em_size`](crate::Scale::em_size) make
+    /// one em, as all advances and offsets. No call sets the advance of a mark or of a default ignorable to 0.
     pub x_advance: i32,
+    /// How far the glyph moves the pen upward. In vertical text it is negative, as the pen goes down, and the x advance
+    /// is 0.
     pub y_advance: i32,
+    /// From the pen to where the glyph is drawn, to the right.
     pub x_offset: i32,
+    /// From the pen to where the glyph is drawn, upward.
     pub y_offset: i32,
-    /// Which letter the glyph came from, in a [`Form::Clustered`] line; `None` in a [`Form::Plain`] one. Any number: say, the index in the text of the letter's
-    /// first character. A letter and its marks commonly share one, and so do a ligature and its marks. No call but the moves looks at it or writes it.
+    /// Which letter the glyph came from, in a [`Form::Clustered`] line; `None` in a [`Form::Plain`] one. Any number:
+    /// say, the index in the text of the letter's first character. A letter and its marks commonly share one, and so do
+    /// a ligature and its marks. No call but the moves looks at it or writes it.
     pub cluster: Option<u32>,
 }
 
-/// The error where bytes aren't as many as the slot's: 24 without a cluster, 28 with one. So no cluster is lost, and none made up.
-#[derive(Clone, Copy, Debug, PartialEq, Eq)]
+/// The error where slots and their bytes don't fit: the bytes are too few or too many for the slots, which take 24 each
+/// without a cluster and 28 with one; or a slot is of another form than its line, so that its cluster would be lost or
+/// made up.
+#[derive(Clone, Copy, Debug, PartialEq, Eq, Hash)]
 pub struct WrongForm;
 
 impl fmt::Display for WrongForm {
     fn fmt(&self, f: &mut fmt::Formatter<'_>) -> fmt::Result {
-        f.write_str("a slot without a cluster has 24 bytes, one with a cluster 28")
+        f.write_str("the bytes are too few or too many, or a slot is of another form: 24 bytes, or 28 with a cluster")
     }
 }
 
-impl std::error::Error for WrongForm {}
+impl core::error::Error for WrongForm {}
+
+/// Takes the first bytes off.
+fn take<const N: usize>(bytes: &mut &[u8]) -> Result<[u8; N], WrongForm> {
+    let (first, rest) = bytes.split_first_chunk().ok_or(WrongForm)?;
+    *bytes = rest;
+    Ok(*first)
+}
 
 impl Slot {
-    /// Only mark attachment looks at it: clear it on marks, on default ignorables (ZWNJ, ZWJ, CGJ) and on glyphs outside the lookup's feature; set it on all
-    /// others, whatever the lookup's flag.
+    /// A bit of [`Slot::flags`]: a mark may be put on the glyph. Only [`mark_base`](crate::mark_base) and
+    /// [`mark_ligature`](crate::mark_ligature) look at it. Before each such lookup clear it on marks, on default
+    /// ignorables (ZWNJ, CGJ, SHY and all others that Unicode calls so, unless a substitution made another glyph of
+    /// one) and on glyphs outside the lookup's feature, which the search then passes over; set it on all others,
+    /// whatever the lookup's flag.
+    ///
+    /// ZWJ is a default ignorable too, but in lookups of the features mark and mkmk HarfBuzz leaves it seen: a mark
+    /// behind a ZWJ stays where it is.
     pub const SEEN: u8 = 1;
-    /// The glyph is a mark.
+    /// A bit of [`Slot::flags`]: the glyph is a mark, class 3 of GDEF. It doesn't hide the glyph from the search for a
+    /// base: a clear [`Slot::SEEN`] does.
     pub const MARK: u8 = 2;
-    /// The glyph is one of several that a substitution made of one.
+    /// A bit of [`Slot::flags`]: the glyph is one of several that a substitution made of one. A mark behind them goes
+    /// to the first of them, unless the subtable covers another, or, for [`mark_base`](crate::mark_base), a slot stands
+    /// between them that is a mark or isn't one of them.
     pub const MULTIPLIED: u8 = 4;
-    pub const TYPE_MARK: u8 = 1;
-    pub const TYPE_CURSIVE: u8 = 2;
+    /// A value of [`Slot::attach_type`]: a mark on its base or ligature.
+    pub const ATTACH_MARK: u8 = 1;
+    /// A value of [`Slot::attach_type`]: a glyph joined to its neighbour.
+    pub const ATTACH_CURSIVE: u8 = 2;
 
     /// The form of the lines that hold such a slot.
-    pub fn form(self) -> Form {
+    pub const fn form(self) -> Form {
         match self.cluster {
             None => Form::Plain,
             Some(_) => Form::Clustered,
         }
     }
 
-    /// Writes the slot to its bytes in a line.
+    /// Writes the slot to its bytes in a line, which must be as many as its form has.
+    ///
+    /// # Errors
+    ///
+    /// [`WrongForm`] where they are more or fewer: none has changed.
     pub fn write(self, bytes: &mut [u8]) -> Result<(), WrongForm> {
         if bytes.len() != self.form().size() {
             return Err(WrongForm);
         }
-        bytes[..2].copy_from_slice(&self.glyph.to_be_bytes());
-        bytes[2..6].copy_from_slice(&[self.ligature_id, self.component, self.flags, self.attach_type]);
-        bytes[6..8].copy_from_slice(&self.chain.to_be_bytes());
-        for (k, n) in [self.x_advance, self.y_advance, self.x_offset, self.y_offset].into_iter().enumerate() {
-            bytes[8 + 4 * k..12 + 4 * k].copy_from_slice(&n.to_be_bytes());
-        }
-        if let Some(cluster) = self.cluster {
-            bytes[24..].copy_from_slice(&cluster.to_be_bytes());
+        let fields: [&[u8]; 8] = [
+            &self.glyph.to_be_bytes(),
+            &[self.ligature_id, self.component, self.flags, self.attach_type],
+            &self.chain.to_be_bytes(),
+            &self.x_advance.to_be_bytes(),
+            &self.y_advance.to_be_bytes(),
+            &self.x_offset.to_be_bytes(),
+            &self.y_offset.to_be_bytes(),
+            // Without a cluster the bytes end before this.
+            &self.cluster.unwrap_or(0).to_be_bytes(),
+        ];
+        for (byte, new) in bytes.iter_mut().zip(fields.into_iter().flatten()) {
+            *byte = *new;
         }
         Ok(())
     }
 
     /// The slot with these bytes, with a cluster where they are 28.
-    pub fn read(bytes: &[u8]) -> Result<Self, WrongForm> {
-        let four = |at: usize| [bytes[at], bytes[at + 1], bytes[at + 2], bytes[at + 3]];
-        let cluster = match bytes.len() {
-            24 => None,
-            28 => Some(u32::from_be_bytes(four(24))),
-            _ => return Err(WrongForm),
+    ///
+    /// # Errors
+    ///
+    /// [`WrongForm`] where they are neither 24 nor 28.
+    pub fn read(mut bytes: &[u8]) -> Result<Self, WrongForm> {
+        let rest = &mut bytes;
+        let slot = Self {
+            glyph: u16::from_be_bytes(take(rest)?),
+            ligature_id: u8::from_be_bytes(take(rest)?),
+            component: u8::from_be_bytes(take(rest)?),
+            flags: u8::from_be_bytes(take(rest)?),
+            attach_type: u8::from_be_bytes(take(rest)?),
+            chain: i16::from_be_bytes(take(rest)?),
+            x_advance: i32::from_be_bytes(take(rest)?),
+            y_advance: i32::from_be_bytes(take(rest)?),
+            x_offset: i32::from_be_bytes(take(rest)?),
+            y_offset: i32::from_be_bytes(take(rest)?),
+            cluster: if rest.is_empty() { None } else { Some(u32::from_be_bytes(take(rest)?)) },
         };
-        Ok(Self {
-            glyph: u16::from_be_bytes([bytes[0], bytes[1]]),
-            ligature_id: bytes[2],
-            component: bytes[3],
-            flags: bytes[4],
-            attach_type: bytes[5],
-            chain: i16::from_be_bytes([bytes[6], bytes[7]]),
-            x_advance: i32::from_be_bytes(four(8)),
-            y_advance: i32::from_be_bytes(four(12)),
-            x_offset: i32::from_be_bytes(four(16)),
-            y_offset: i32::from_be_bytes(four(20)),
-            cluster,
-        })
+        rest.is_empty().then_some(slot).ok_or(WrongForm)
     }
 }
 
-/// The bytes of a line of these slots, which must all be of this form.
+/// Writes a line of these slots, which must all be of this form, to `slots.len() * form.size()` bytes.
+///
+/// # Errors
+///
+/// [`WrongForm`] where the bytes are more or fewer, or a slot is of the other form: no byte has changed.
+pub fn write_slots(line: &mut [u8], form: Form, slots: &[Slot]) -> Result<(), WrongForm> {
+    // The product doesn't overflow, since a `Slot` takes more memory than its bytes in a line.
+    if line.len() != slots.len() * form.size() || slots.iter().any(|slot| slot.form() != form) {
+        return Err(WrongForm);
+    }
+    line.chunks_exact_mut(form.size()).zip(slots).try_for_each(|(bytes, slot)| slot.write(bytes))
+}
+
+/// The bytes of a line of these slots, which must all be of this form. With the feature `alloc`; without,
+/// [`write_slots`] writes a line to bytes that you have.
+///
+/// # Errors
+///
+/// [`WrongForm`] where a slot is of the other form.
+#[cfg(feature = "alloc")]
 pub fn line_of(form: Form, slots: &[Slot]) -> Result<Vec<u8>, WrongForm> {
     let mut line = vec![0; slots.len() * form.size()];
-    line.chunks_exact_mut(form.size()).zip(slots).try_for_each(|(bytes, slot)| slot.write(bytes))?;
+    write_slots(&mut line, form, slots)?;
     Ok(line)
 }
 
-/// The whole slots of a line; bytes after the last whole one are passed over.
-pub fn slots_of(form: Form, line: &[u8]) -> impl Iterator<Item = Slot> + '_ {
-    line.chunks_exact(form.size()).map(|bytes| Slot::read(bytes).expect("a slot's bytes"))
+/// The whole slots of a line, from slot 0 up, or with `rev` from the last down; bytes after the last whole one are
+/// passed over.
+pub fn slots_of(line: &[u8], form: Form) -> impl DoubleEndedIterator<Item = Slot> + ExactSizeIterator + '_ {
+    // Chunks are of the form's size, so each is a slot, and the default is never taken.
+    line.chunks_exact(form.size()).map(|bytes| Slot::read(bytes).unwrap_or_default())
+}
+
+/// Slot `index` of a line, or `None` where the line has no such whole slot.
+pub fn slot_at(line: &[u8], form: Form, index: usize) -> Option<Slot> {
+    slots_of(line, form).nth(index)
+}
+
+/// Writes slot `index` of a line, and leaves the other slots as they are.
+///
+/// # Errors
+///
+/// [`WrongForm`] where the slot is not of this form, or the line has no such whole slot: no byte has changed.
+pub fn put_slot(line: &mut [u8], form: Form, index: usize, slot: Slot) -> Result<(), WrongForm> {
+    // Chunks are of the form's size, which `write` holds against the slot's.
+    line.chunks_exact_mut(form.size()).nth(index).map_or(Err(WrongForm), |bytes| slot.write(bytes))
 }

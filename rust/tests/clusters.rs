@@ -1,5 +1,5 @@
-//! Lines moved from one form to the other, through the library: linked on x86-64 alone. And slots written in one form or the other.
-#![cfg(target_arch = "x86_64")]
+//! Lines moved from one form to the other, through the library: linked on x86-64 Linux alone.
+#![cfg(all(target_arch = "x86_64", target_os = "linux"))]
 use gpos::*;
 
 fn slot(number: u32, cluster: Option<u32>) -> Slot {
@@ -14,7 +14,7 @@ fn both() -> [Vec<u8>; 2] {
 }
 
 #[test]
-fn there_and_back_gives_the_same_bytes() {
+fn there_and_back_changes_no_byte() {
     let [plain, clustered] = both();
     let (mut there, mut back) = (vec![255; 84], vec![255; 72]);
     assert_eq!(to_clusters(&plain, &mut there), Ok(()));
@@ -34,7 +34,7 @@ fn refused(by: fn(&[u8], &mut [u8]) -> Result<(), Refusal>, line: &[u8], target:
 }
 
 #[test]
-fn moves_are_refused() {
+fn moves_that_would_lose_bytes_are_refused() {
     let [mut plain, mut clustered] = both();
     for target in [0, 83, 85] {
         assert_eq!(refused(to_clusters, &plain, target), Refusal::Move);
@@ -53,16 +53,4 @@ fn moves_are_refused() {
     assert_eq!(refused(from_clusters, &clustered[1..], 1), Refusal::Line);
     assert_eq!(refused(to_clusters, &[0; 1025 * 24], 1025 * 28), Refusal::Line);
     assert_eq!(refused(from_clusters, &[0; 1025 * 28], 1025 * 24), Refusal::Line);
-    assert_eq!(Refusal::Move.number(), 10);
-}
-
-#[test]
-fn no_cluster_is_lost_or_made_up() {
-    assert_eq!(line_of(Form::Plain, &[slot(0, None), slot(1, Some(7))]), Err(WrongForm));
-    assert_eq!(line_of(Form::Clustered, &[slot(0, Some(7)), slot(1, None)]), Err(WrongForm));
-    for slot in [slot(0, None), slot(1, Some(u32::MAX))] {
-        let line = line_of(slot.form(), &[slot]).unwrap();
-        assert_eq!(Slot::read(&line), Ok(slot));
-    }
-    assert_eq!(Slot::read(&[0; 26]), Err(WrongForm));
 }

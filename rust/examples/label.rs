@@ -1,0 +1,267 @@
+//! A label from right to left, from shaped glyphs to drawn places: the Persian word for rooms, ghurfa-ha, with a vowel
+//! mark, two kerned pairs and a ZWNJ. It is examples/label.c in Rust, and draws the same; docs/GUIDE.md, which is the
+//! module `gpos::guide` too, explains the code.
+use gpos::{cursive, finish, mark_base, mark_ligature, pair, single, slots_of, start, write_slots};
+use gpos::{At, Direction, Form, Neighbour, Outcome, Refusal, Scale, Slot, WrongForm};
+use gpos::{LOOKUP_IGNORE_BASES, LOOKUP_IGNORE_LIGATURES, LOOKUP_IGNORE_MARKS, NESTING_LIMIT};
+use std::error::Error;
+
+// Glyph numbers of a font that is made up here.
+const ZWNJ: u16 = 3;
+const GHAIN: u16 = 10;
+const REH: u16 = 11;
+const FEH: u16 = 12;
+const HEH_FINAL: u16 = 13;
+const HEH_INITIAL: u16 = 14;
+const ALEF: u16 = 15;
+const DAMMA: u16 = 50;
+
+/// What the label is set in: 1000 units of the font make one em, and 500 of the panel's.
+const SCALE: Scale = Scale { em_size: 500, units_per_em: 1000 };
+const DIRECTION: Direction = Direction::RightToLeft;
+
+// ---- What the shaper gives: glyphs in reading order, after substitution
+
+// Classes of GDEF.
+const BASE: u16 = 1;
+const LIGATURE: u16 = 2;
+const MARK: u16 = 3;
+
+// Features, a bit each.
+const KERN: u32 = 1;
+const MARKS: u32 = 2;
+
+struct Glyph {
+    name: &'static str,
+    glyph: u16,
+    /// In units of the font.
+    advance: u32,
+    /// 0 if GDEF has none.
+    class: u16,
+    /// A default ignorable that no substitution has replaced.
+    ignorable: bool,
+    /// Those that are on at this glyph.
+    features: u32,
+}
+
+const fn letter(name: &'static str, glyph: u16, advance: u32) -> Glyph {
+    Glyph { name, glyph, advance, class: BASE, ignorable: false, features: KERN | MARKS }
+}
+
+const COUNT: usize = 8;
+static GLYPHS: [Glyph; COUNT] = [
+    letter("ghain", GHAIN, 600),
+    Glyph { class: MARK, ..letter("damma", DAMMA, 200) },
+    letter("reh", REH, 400),
+    letter("feh", FEH, 800),
+    letter("heh", HEH_FINAL, 500),
+    Glyph { ignorable: true, ..letter("ZWNJ", ZWNJ, 120) },
+    letter("heh", HEH_INITIAL, 560),
+    letter("alef", ALEF, 240),
+];
+const FORM: Form = Form::Plain;
+
+// ---- What the font has: lookups, in the order of its lookup list
+
+/// PairPos format 1. Right to left a pair is moved together by the first glyph's x placement and x advance alike, so
+/// the value formats are 5 and 0.
+#[rustfmt::skip]
+const KERN_PAIRS: [u16; 19] = [
+    /*  0 */ 1, 14,                // format, coverage at 14
+    /*  4 */ 5, 0,                 // value formats
+    /*  8 */ 2, 22, 30,            // two pair sets, at 22 and 30
+    /* 14 */ 1, 2, REH, HEH_FINAL, // the first glyphs: coverage, format 1
+    /* 22 */ 1, FEH, signed(-60), signed(-60),
+    /* 30 */ 1, HEH_INITIAL, 20, 20,
+];
+
+/// MarkBasePos format 1, of one class of marks.
+#[rustfmt::skip]
+const VOWELS_ON_LETTERS: [u16; 23] = [
+    /*  0 */ 1, 12, 18,   // format, coverages at 12 and 18
+    /*  6 */ 1, 24, 36,   // one class, mark array at 24, base array at 36
+    /* 12 */ 1, 1, DAMMA, // the marks
+    /* 18 */ 1, 1, GHAIN, // the bases
+    /* 24 */ 1, 0, 6,     // one mark: its class, its anchor 6 farther on
+    /* 30 */ 1, 100, 0,   // that anchor: format, x, y
+    /* 36 */ 1, 4,        // one base: its anchor 4 farther on
+    /* 40 */ 1, 320, 700,
+];
+
+const fn signed(n: i16) -> u16 {
+    n as u16
+}
+
+struct Lookup {
+    lookup_type: u16,
+    flag: u16,
+    feature: u32,
+    subtables: Vec<Vec<u8>>,
+}
+
+/// A program with a font takes the bytes of a subtable from its GPOS table, by `gpos::subtable`.
+fn lookups() -> [Lookup; 2] {
+    let bytes = |words: &[u16]| words.iter().flat_map(|word| word.to_be_bytes()).collect();
+    [
+        Lookup { lookup_type: 2, flag: LOOKUP_IGNORE_MARKS, feature: KERN, subtables: vec![bytes(&KERN_PAIRS)] },
+        Lookup { lookup_type: 4, flag: 0, feature: MARKS, subtables: vec![bytes(&VOWELS_ON_LETTERS)] },
+    ]
+}
+
+// ---- Filling the slots
+
+/// Rounded as the library rounds; for numbers that aren't negative.
+fn scaled(v: u32) -> u32 {
+    (2 * v * SCALE.em_size + SCALE.units_per_em) / (2 * SCALE.units_per_em)
+}
+
+fn fill(line: &mut [u8]) -> Result<(), WrongForm> {
+    let slots = GLYPHS.each_ref().map(|glyph| Slot {
+        glyph: glyph.glyph,
+        flags: if glyph.class == MARK { Slot::MARK } else { 0 },
+        x_advance: scaled(glyph.advance) as i32,
+        ..Slot::default()
+    });
+    write_slots(line, FORM, &slots)
+}
+
+// ---- One lookup over the line
+
+impl Lookup {
+    fn has(&self, glyph: &Glyph) -> bool {
+        glyph.features & self.feature != 0
+    }
+
+    /// Whether the lookup's flag skips the glyph. A font may also choose marks, by class or by set
+    /// (`LOOKUP_MARK_ATTACHMENT_CLASS`, `LOOKUP_USE_MARK_FILTERING_SET`): then the others are skipped too.
+    fn skips(&self, glyph: &Glyph) -> bool {
+        let bit = match glyph.class {
+            BASE => LOOKUP_IGNORE_BASES,
+            LIGATURE => LOOKUP_IGNORE_LIGATURES,
+            MARK => LOOKUP_IGNORE_MARKS,
+            _ => 0,
+        };
+        self.flag & bit != 0
+    }
+
+    /// For lookups of type 4 and 5: which glyphs a mark's base is looked for among.
+    fn set_seen(&self, line: &mut [u8]) -> Result<(), WrongForm> {
+        for (bytes, glyph) in line.chunks_exact_mut(FORM.size()).zip(&GLYPHS) {
+            let mut slot = Slot::read(bytes)?;
+            let hidden = glyph.class == MARK || glyph.ignorable || !self.has(glyph);
+            slot.flags = slot.flags & !Slot::SEEN | if hidden { 0 } else { Slot::SEEN };
+            slot.write(bytes)?;
+        }
+        Ok(())
+    }
+
+    /// Whether a search for a neighbour ends at slot i.
+    fn stops(&self, i: usize) -> bool {
+        !self.skips(&GLYPHS[i]) && !GLYPHS[i].ignorable
+    }
+
+    /// The second glyph of a pair.
+    fn next_of(&self, i: usize) -> Neighbour {
+        match (i + 1..COUNT).find(|j| self.stops(*j)) {
+            Some(j) if self.has(&GLYPHS[j]) => Neighbour::Named(j),
+            Some(j) => Neighbour::Missing(j + 1),
+            None => Neighbour::Missing(COUNT),
+        }
+    }
+
+    /// The glyph that a cursive one joins.
+    fn previous_of(&self, i: usize) -> Neighbour {
+        match (0..i).rfind(|j| self.stops(*j)) {
+            Some(j) if self.has(&GLYPHS[j]) => Neighbour::Named(j),
+            Some(j) => Neighbour::Missing(j.saturating_sub(1)),
+            None => Neighbour::Missing(0),
+        }
+    }
+
+    fn apply_subtable(&self, line: &mut [u8], subtable: &[u8], i: usize) -> Result<Outcome, Refusal> {
+        let at = At { direction: DIRECTION, scale: SCALE, index: i };
+        match self.lookup_type {
+            1 => single(line, FORM, subtable, at),
+            2 => pair(line, FORM, subtable, at, self.next_of(i)),
+            3 => cursive(line, FORM, subtable, at, self.previous_of(i), self.flag),
+            4 => mark_base(line, FORM, subtable, at),
+            _ => mark_ligature(line, FORM, subtable, at),
+        }
+    }
+
+    /// Tries the lookup's subtables at slot i. Says where to go on, and whether one attached.
+    fn apply_at(&self, line: &mut [u8], i: usize) -> Result<(usize, bool), Refusal> {
+        for subtable in &self.subtables {
+            match self.apply_subtable(line, subtable, i) {
+                Ok(Outcome::Applied { next, attached, .. }) => return Ok((next, attached)),
+                // Declined, or the font is bad: passed over. Other refusals are this program's mistake.
+                Ok(Outcome::Declined { .. }) => {}
+                Err(refusal) if refusal.is_font_error() => {}
+                Err(refusal) => return Err(refusal),
+            }
+        }
+        Ok((i + 1, false))
+    }
+
+    /// Says whether it attached.
+    fn apply(&self, line: &mut [u8]) -> Result<bool, Box<dyn Error>> {
+        match self.lookup_type {
+            1..=3 => {}
+            4..=5 => self.set_seen(line)?,
+            _ => return Ok(false), // not in the library
+        }
+        let (mut i, mut attachments) = (0, false);
+        while i < COUNT {
+            let here = self.has(&GLYPHS[i]) && !self.skips(&GLYPHS[i]);
+            let (next, attached) = if here { self.apply_at(line, i)? } else { (i + 1, false) };
+            i = next;
+            attachments |= attached;
+        }
+        Ok(attachments)
+    }
+}
+
+// ---- After the lookups
+
+fn clear_advances(line: &mut [u8]) -> Result<(), WrongForm> {
+    for (bytes, glyph) in line.chunks_exact_mut(FORM.size()).zip(&GLYPHS) {
+        if glyph.class == MARK || glyph.ignorable {
+            Slot { x_advance: 0, y_advance: 0, ..Slot::read(bytes)? }.write(bytes)?;
+        }
+    }
+    Ok(())
+}
+
+/// A panel would paint here.
+fn draw_glyph(i: usize, x: i64, y: i64) {
+    println!("{i} {:<5} at {x:4} {y:3}", GLYPHS[i].name);
+}
+
+fn draw(line: &[u8]) {
+    let (mut x, mut y) = (0, 0); // the pen: where the label begins, at its left or top
+    let mut slots: Vec<(usize, Slot)> = slots_of(line, FORM).enumerate().collect();
+    if DIRECTION.is_backward() {
+        slots.reverse();
+    }
+    for (i, slot) in slots {
+        if !GLYPHS[i].ignorable {
+            draw_glyph(i, x + i64::from(slot.x_offset), y + i64::from(slot.y_offset));
+        }
+        x += i64::from(slot.x_advance);
+        y += i64::from(slot.y_advance);
+    }
+}
+
+fn main() -> Result<(), Box<dyn Error>> {
+    let mut line = [0; COUNT * FORM.size()];
+    let mut attachments = false;
+    fill(&mut line)?;
+    start(&mut line, FORM)?;
+    for lookup in &lookups() {
+        attachments |= lookup.apply(&mut line)?;
+    }
+    clear_advances(&mut line)?;
+    finish(&mut line, FORM, DIRECTION, NESTING_LIMIT, attachments)?;
+    draw(&line);
+    Ok(())
+}
