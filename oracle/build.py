@@ -5,7 +5,7 @@
 
 Without a name: oracle and drive; with --ready nothing is built, and what is missing is said. They are written to target/oracle/:
 
-    oracle         the crate's text, with document 01's rules where the two differ by decision: the sum of a coverage
+    oracle         the crate's text, by docs/RULES.md where the two differ by decision: the sum of a coverage
                    index is not cut at 16 bits, and a class matrix is judged record by record
     oracle-crate   coverage.rs and PairPos2::new as they stand, kerning through PairKern1 and PairKern2
     oracle-bench   as oracle, without the counting that ends an endless walk, for x86-64 and with the library linked in, for oracle/bench
@@ -61,7 +61,7 @@ def item(text, start):
 
 
 def whole_files(crate_reading):
-    """Files taken whole. For document 01's reading one expression of coverage.rs is replaced."""
+    """Files taken whole. For the rule on coverage indexes one expression of coverage.rs is replaced."""
     for name in ("hint", "budget", "set_digest"):
         write(name + ".rs", source("src/%s.rs" % name))
     coverage = source("src/ot/lookup/coverage.rs")

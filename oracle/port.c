@@ -1,4 +1,5 @@
-/* Answers frames on standard input, as README.md has them, by calling the library: the port's side of the comparison. A call joins by a function and a row. */
+/* Answers frames on standard input, as README.md has them, by calling the library: the port's side of the comparison. A
+   call joins by a function and a row. */
 #include "gpos.h"
 
 #include <stdio.h>
@@ -11,7 +12,7 @@ typedef struct {
     uint8_t *line, *subtable; /* a move's target is in the subtable's place */
 } call;
 
-/* status, refusal, attached, hazards, next, two hazards of kind, start and end, harm */
+/* status, refusal, attached, hazard count, next, two hazards of kind, start and end, harm */
 typedef struct {
     uint64_t number[12];
 } said;
@@ -24,8 +25,8 @@ static said done(uint32_t number) {
 }
 
 static said applying(gpos_answer g) {
-    said a = {{g.status, g.refusal, g.attached, g.hazards, g.next, g.hazard[0].kind, g.hazard[0].start, g.hazard[0].end, g.hazard[1].kind, g.hazard[1].start,
-               g.hazard[1].end}};
+    said a = {{g.status, g.refusal, g.attached, g.hazard_count, g.next,
+               g.hazard[0].kind, g.hazard[0].start, g.hazard[0].end, g.hazard[1].kind, g.hazard[1].start, g.hazard[1].end}};
     return a;
 }
 

@@ -66,7 +66,7 @@ static void on_ligature(void) { status = gpos_mark_ligature(line, size * slots, 
 
 static void moving(void) {
     uint32_t refused = size == SHORT ? gpos_to_clusters(line, SHORT * slots, moved, LONG * slots) : gpos_from_clusters(line, LONG * slots, moved, SHORT * slots);
-    status = refused == 0 ? GPOS_APPLIED : GPOS_REFUSED;
+    status = refused == 0 ? GPOS_STATUS_APPLIED : GPOS_STATUS_REFUSED;
 }
 
 static size_t used(void (*call)(void)) {
@@ -90,7 +90,7 @@ static size_t others(void) {
     size_t most = 0;
     for (size_t k = 0; k < sizeof calls / sizeof *calls; k++) {
         size_t bytes = used(calls[k]);
-        if (status != GPOS_APPLIED) return 0;
+        if (status != GPOS_STATUS_APPLIED) return 0;
         if (most < bytes) most = bytes;
     }
     size_t bytes = used(starting);

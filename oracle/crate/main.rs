@@ -32,7 +32,7 @@ impl Direction {
     }
 }
 
-/// v becomes floor((2vs + u) / 2u)
+/// The scale: floor((2vs + u) / 2u) of v
 #[derive(Clone, Copy)]
 pub struct Scale {
     s: i64,
@@ -264,7 +264,7 @@ mod ot {
             pub fn prev(&mut self, unsafe_from: Option<&mut usize>) -> bool {
                 self.step(unsafe_from)
             }
-            /// The "seen" bit stands for a match.
+            /// A slot matches if it is seen.
             #[inline(always)]
             pub fn match_at(&mut self, i: usize) -> MatchResult {
                 if self.buffer.info[i].mask & 1 != 0 {
@@ -319,7 +319,7 @@ mod ot {
                 let end = start.checked_add(count.checked_mul(width)?)?;
                 (end <= data.len()).then_some(Self { data, start, count, width })
             }
-            /// A number past the count or cut is absent.
+            /// There are as many numbers as the count says, less those that are cut.
             #[inline(always)]
             fn get(&self, index: usize) -> Option<u32> {
                 if index >= self.count {

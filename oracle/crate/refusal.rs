@@ -1,4 +1,4 @@
-//! Refusals 1 to 6, written for themselves from document 01: the crate has none.
+//! Refusals 1 to 6, written for themselves from docs/RULES.md: the crate has none.
 use crate::frame::*;
 use crate::ot::apply::Neighbour;
 

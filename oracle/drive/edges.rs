@@ -11,7 +11,7 @@ fn start_bytes((bytes, size): (usize, u64)) -> Call {
     call
 }
 
-/// Lengths at and past the limit of either form, whole in both, uneven, and sizes that there aren't. The paper's own, 24,576 and 24,600 in slots of 24, are worked sums.
+/// Lengths at and past the limit of either form, whole in both, uneven, and sizes that there aren't. 24,576 and 24,600 in slots of 24 are worked sums.
 const STARTS: [(usize, u64); 10] = [(0, 24), (24, 24), (25, 24), (28_672, 28), (28_700, 28), (24_576, 28), (168, 24), (168, 28), (52, 26), (0, 0)];
 
 /// A line of two slots, of which the second has a value in a byte.
@@ -39,7 +39,7 @@ fn in_directions(directions: &[u32], call: Call) -> Vec<Call> {
     directions.iter().map(|d| Call { direction: *d, ..call.clone() }).collect()
 }
 
-/// The subtables of P2, P3 and P4 in the directions that the paper leaves out.
+/// The subtables of P2, P3 and P4 in the directions that the worked sums leave out.
 fn other_directions() -> Vec<Call> {
     let p2 = single(of_glyph(7), single_by(5, &[-10, 20]));
     let [p3, p4] = [4, 8].map(|format| single(of_glyph(7), single_by(format, &[20])));
@@ -73,7 +73,7 @@ pub fn groups() -> Vec<Group> {
         group("starting: lengths and sizes", STARTS.map(start_bytes).into()),
         group("starting: fields at the ends of their ranges", FIELDS.map(start_with).into()),
         group("starting: old attachments", vec![start_attached()]),
-        group("single: the paper's records in other directions", other_directions()),
+        group("single: the worked records in other directions", other_directions()),
         group("single: sums past the ends of 32 bits", past_ends()),
         group("single: value formats 0, 256, and 255 cut at every byte", formats()),
         group("single: index below the count, at it, glyph not covered", at_the_count()),

@@ -124,7 +124,7 @@ fn main() {
     let (kinds, absent): (Vec<usize>, Vec<usize>) = o.kinds.iter().partition(|k| have[**k]);
     if !absent.is_empty() {
         let names: Vec<&str> = absent.iter().map(|k| NAMES[*k]).collect();
-        println!("skipped, since the C face doesn't have them yet: {}", names.join(", "));
+        println!("skipped, since the library for C doesn't have them yet: {}", names.join(", "));
     }
     if let Some(paths) = &o.lists {
         if !absent.is_empty() {

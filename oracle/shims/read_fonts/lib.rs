@@ -1,4 +1,4 @@
-//! Shim of the crate `read_fonts`: only what gpos.rs and coverage.rs name, and by document 01. Tables with 24-bit numbers are types without values, so that
+//! Shim of the crate `read_fonts`: only what gpos.rs and coverage.rs name, and by docs/RULES.md. Tables with 24-bit numbers are types without values, so that
 //! the text about them compiles and can't run.
 #![allow(dead_code, unused_variables)]
 

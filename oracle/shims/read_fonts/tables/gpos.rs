@@ -71,7 +71,7 @@ impl<'a> ValueRecord<'a> {
     pub fn byte_len(&self) -> usize {
         self.format.record_byte_len()
     }
-    /// "the second format is not 0"
+    /// Whether there is no record, by its format alone.
     #[inline(always)]
     pub fn is_empty(&self) -> bool {
         self.format.is_empty()
@@ -87,7 +87,7 @@ pub struct ClassValueRecords<'a> {
     n2: u16,
 }
 impl<'a> ClassValueRecords<'a> {
-    /// `None` for a class outside its count or a record not wholly inside.
+    /// `None` where a class is not below its count, or the record is cut.
     #[inline(always)]
     pub fn get(&self, c1: u16, c2: u16) -> Option<[ValueRecord<'a>; 2]> {
         if c1 >= self.n1 || c2 >= self.n2 {
