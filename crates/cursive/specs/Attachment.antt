@@ -61,7 +61,7 @@ thisJoined TopToBottom z s = pulled Y z s
 thisJoined BottomToTop z s = advancedTo Y z s
 
 -- ---- across the line
--- RIGHT_TO_LEFT is lookup flag 0x0001
+-- is RIGHT_TO_LEFT, 0x0001, set in the lookup's flag?
 abbrev pub rightToLeft : ℕ → Bool
 rightToLeft flag = eqb (flag % 2) 1
 

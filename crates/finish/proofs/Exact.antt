@@ -27,7 +27,7 @@ use Rattle.finish.proofs.Pens.{pen-near, walk-exact, walked-by}
 use Rattle.finish.proofs.WalkLaws.{getD-advances}
 
 -- ---- the exact offsets
--- the new offset on an axis, as `taken` has it, but exact; gap is the parent's pen place less the own one
+-- the new offset on an axis, as `taken` has it, but exact; gap is how far the parent's pen place is past the own one
 abbrev pub exact : AttachKind → Bool → ℤ → ℤ → ℤ → ℤ
 exact mark true gap own parents = own +ℤ parents +ℤ gap
 exact mark false gap own parents = own +ℤ gap

@@ -17,7 +17,7 @@ use Rattle.finish.specs.Finish.{finished, takenIn, settled, settledDown,
 abbrev pub made : ℕ → ℤ → ℤ → ℤ → ℤ → Slot
 made k c a ox oy = attached k c (withPlace a (pos 0) ox oy noSlot)
 
--- document 01's program: a base, a mark on it, and a mark on that mark
+-- the example of the finishing program: a base, a mark on it, and a mark on that mark
 abbrev pub example : List Slot
 example = made 0 (pos 0) (pos 600) (pos 0) (pos 0) ∷ made 1 (minus 1) (pos 0) (pos 250) (pos 40) ∷ made 1 (minus 1) (pos 0) (pos 10) (pos 700) ∷ []
 

@@ -1,4 +1,4 @@
--- Demand 3 speaks of something: the line of document 01's program is one of its lines. Assumes nothing.
+-- Demand 3 speaks of something: the line of the finishing program's example is one of its lines. Assumes nothing.
 use mathlib.Core.Bool.{true}
 use mathlib.Core.Path.{_≡_, refl, subst}
 use Prim.Native.Nat.{ℕ, zero, suc, _≤_, _<_}

@@ -1,4 +1,4 @@
-// The advances between a slot and its parent, read from one part of the line in one pass.
+// The advances between a slot and its parent, read in one pass over the part of the line that has them.
 use ints::big_endian::Signed;
 use ints::saturating::lift;
 use ints::saturating::lifted_add;

@@ -34,7 +34,7 @@ pub fn settle_slot(line: &mut [u8], shape: Shape, d: Direction, i: usize, limit:
     }
 }
 
-// The parent is read only after its own chain has been followed. A chain that leads outside the line, or past the
+// The parent is settled first and only then read. A chain that leads outside the line, or past the
 // nesting limit, is only cleared. The shape goes as two numbers: a struct goes by pointer, which takes stack at each
 // level.
 pub fn settle(line: &mut [u8], size: usize, n: usize, d: Direction, i: usize, limit: u32)

@@ -1,4 +1,4 @@
--- Worked values by hand from document 01: the tests of the public calls at the ends of their ranges, and their order. They compute. Assumes nothing.
+-- Values worked by hand from the rules: the tests of the public calls at the ends of their ranges, and their order. They compute. Assumes nothing.
 use mathlib.Core.Bool.{true, false, not}
 use mathlib.Core.List.{List, [], _∷_, map}
 use mathlib.Core.Path.{_≡_, refl}
@@ -50,7 +50,7 @@ ordered z =
     bad z (9 ∷ spare z) 4 0 1 ∷ bad z (spare z) 4 0 1 ∷ bad z (spare z) 3 0 1 ∷ bad z (spare z) 3 1 1 ∷ bad z (well z) 3 1 1 ∷ bad z (well z) 3 1 0 ∷ []
 
 pub record Worked : Type 0 where
-  -- s from 1 to 32,768, u from 16 to 16,384
+  -- s and u at the ends of their ranges, and just outside
   pub scales-in : (badScale 1 16 ≡ false) × (badScale 32768 16384 ≡ false)
   pub scales-out : (badScale 0 16 ≡ true) × (badScale 32769 16 ≡ true) × (badScale 1 15 ≡ true) × (badScale 1 16385 ≡ true)
   -- three slots, index 1: second is 2 alone; a bound may be the slot count, and as low as 0
@@ -60,7 +60,7 @@ pub record Worked : Type 0 where
   pub at-count : (badPrevious 3 0 (Named 0) ≡ true) × (badPrevious 3 3 (Named 0) ≡ true) × (badSecond 3 3 (Missing 3) ≡ true)
   -- the order of refusals, for both sizes
   pub order : (ordered 24 ≡ map refused (1 ∷ 2 ∷ 3 ∷ 4 ∷ 5 ∷ 6 ∷ [])) × (ordered 28 ≡ map refused (1 ∷ 2 ∷ 3 ∷ 4 ∷ 5 ∷ 6 ∷ []))
-  -- an empty line: an applying call refuses it with 5 unless a lower number applies; it is started and finished
+  -- an empty line has no index: refusal 5 of an applying call, if there is no lower one; it is started and finished
   pub empty : (bad 24 [] 0 1 0 ≡ refused 5) × (bad 24 [] 4 1 0 ≡ refused 2) × (answerTo start 28 [] ≡ done) × (finishing 24 [] 3 0 ≡ done)
   -- the caller names the size: a line of one slot with a cluster is no line of slots without one, nor the other way round; and no other size has a line, not even an empty one
   pub sizes : (answerTo start 24 (well 28) ≡ refused 1) × (answerTo start 28 (well 24) ≡ refused 1) × (answerTo start 26 [] ≡ refused 1) × (answerTo start 0 [] ≡ refused 1)

@@ -13,7 +13,7 @@ use Rattle.answers.specs.Said.{Said, done, saidMoved, unless}
 use Rattle.answers.specs.declared.Moved.{Moved}
 
 -- what a move of the line l, of slots of z bytes, into the target t, of slots of y bytes, says: refusals 1 and 4 of the
--- line; 10 where the target isn't exactly as long as the moved line, or where a cluster would be lost
+-- line; 10 where the target's length is not just the moved line's, or where a cluster would be lost
 abbrev pub moveSaid : ℕ → ℕ → Bool → List ℕ → List ℕ → Said
 moveSaid z y lost l t =
     unless ((badLine z l, 1) ∷ (badSlots (lineSlots z l), 4) ∷ (not (eqb (length t) (count z l * y)) || lost, 10)

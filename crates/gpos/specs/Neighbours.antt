@@ -5,12 +5,13 @@ use lib.Dec.{leb, ltb}
 use Rattle.answers.specs.declared.Neighbour.{Neighbour}
 use Rattle.answers.specs.declared.Neighbour.the-variants.{Named, Missing}
 
--- a second glyph not after the index or not in the line, or a "missing" bound above the slot count
+-- a second glyph that doesn't follow the index or isn't in the line; or, where it is missing, a bound that is past the
+-- line's end
 abbrev pub badAfter : ℕ → ℕ → Neighbour → Bool
 badAfter n idx (Named j) = leb j idx || leb n j
 badAfter n idx (Missing e) = ltb n e
 
--- a previous glyph not before the index, or a "missing" bound above the slot count
+-- a previous glyph that doesn't precede the index; or, where it is missing, a bound that is past the line's end
 abbrev pub badBefore : ℕ → ℕ → Neighbour → Bool
 badBefore n idx (Named i) = leb idx i
 badBefore n idx (Missing f) = ltb n f

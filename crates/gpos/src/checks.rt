@@ -1,4 +1,4 @@
-// The checks that calls share, each made once, in the order of document 01's table: refusals 1 to 4.
+// The checks that calls share, each made once, in the order of their numbers: refusals 1 to 4.
 use answers::Refusal;
 use ints::scale::LEAST_UPEM;
 use ints::scale::MOST_S;

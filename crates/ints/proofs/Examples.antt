@@ -1,4 +1,4 @@
--- Worked values at the ends of ranges, by hand from document 01: bytes, signed numbers, saturating sums, the scale. They compute. Assumes nothing.
+-- Worked values at the ends of ranges, by hand from the rules: bytes, signed numbers, saturating sums, the scale. They compute. Assumes nothing.
 use mathlib.Core.Path.{_≡_, refl}
 use mathlib.Core.List.{List, [], _∷_, map}
 use Prim.Native.Nat.{ℕ, _/_, _%_}

@@ -1,4 +1,4 @@
-// The scale of document 01. Its rule stands here and in specs/Scale.antt alone: callers go by the name `scaled` and its
+// The scale of a line. Its rule stands here and in specs/Scale.antt alone: callers go by the name `scaled` and its
 // bound.
 use crate::big_endian::Signed;
 use crate::limits::HALF32;

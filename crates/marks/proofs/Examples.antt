@@ -1,4 +1,4 @@
--- Worked values: the loop of document 01, and what is easy to get wrong with marks, at lines and a subtable that are written out. They compute.
+-- Worked values: the loop of the worked sums, and what is easy to get wrong with marks, at lines and a subtable that are written out. They compute.
 -- Assumes nothing.
 use mathlib.Core.Path.{_≡_, refl}
 use mathlib.Core.Bool.{true, false}
@@ -58,7 +58,7 @@ part i c = glyphAt 9 i c 1 0 (pos 0) (pos 0)
 abbrev hanging : ℕ → ℤ → ℤ → Slot
 hanging t n y = glyphAt 5 0 0 1 t n y
 
--- the loop of document 01: slots 0 and 1 are cursive and point at each other; the mark, which the search doesn't see, is slot 2
+-- the loop of the worked sums: slots 0 and 1 are cursive and hang on each other; the mark, which the search doesn't see, is slot 2
 abbrev loop : List Slot
 loop = hanging 2 (pos 1) (pos 5) ∷ hanging 2 (negsuc 0) (pos 7) ∷ glyphAt 9 0 0 2 0 (pos 0) (pos 0) ∷ []
 
@@ -110,7 +110,7 @@ pub record Worked : Type 0 where
   -- nothing is seen before the mark, and what was found is not covered: concat
   pub none-found : planOf Base Y (subtable 4) (glyphAt 5 0 0 0 0 (pos 0) (pos 0) ∷ glyphAt 9 0 0 2 0 (pos 0) (pos 0) ∷ []) 1 ≡ stop (unsafeToConcat 0 2 ∷ [])
   pub uncovered : planOf Base Y (subtable 4) (part 0 0 ∷ part 0 0 ∷ part 0 0 ∷ []) 2 ≡ stop (unsafeToConcat 1 3 ∷ [])
-  -- attached, left to right: base anchor less mark anchor, scaled once, and across the line the base's walk
+  -- attached, left to right: the anchors' difference, scaled as one number, and across the line the base's walk
   pub across-y : slot (planned 500 1000 LeftToRight 2 (hang 0 (point (pos 100) (pos 205)) (point (pos 10) (pos 20)) (pos 30)) plain) 2
       ≡ record { glyph = 9; ligatureId = 0; component = 0; flags = 2; attachType = 1; chain = negsuc 1; xAdvance = pos 600; yAdvance = pos 0; xOffset = pos 45; yOffset = pos 123; cluster = 0 }
   -- top to bottom the walk goes to x
@@ -168,7 +168,7 @@ pub record Ends : Type 0 where
   -- ids equal and not 0: the mark's own component, at most the last; component 0 or another id: the last
   pub components : map (onto (ligature 24 0 two) 4) (1 ∷ 2 ∷ 15 ∷ 0 ∷ []) ≡ (at 100 ∷ at 200 ∷ at 200 ∷ at 200 ∷ [])
   pub another-id : onto (ligature 24 0 two) 3 1 ≡ at 200
-  -- no component: concat, also where the mark array is missing; which else is a decline, as are a cut component table and a class not below the class count
+  -- no component: concat, also where the mark array is missing; which else is a decline, as are a cut component table and a class past the count of classes
   pub no-component : map (λ (a : ℕ). onto (ligature a 0 (0 ∷ [])) 4 1) (24 ∷ 0 ∷ []) ≡ (stop (unsafeToConcat 0 2 ∷ []) ∷ stop (unsafeToConcat 0 2 ∷ []) ∷ [])
   pub missing-parts : onto (ligature 0 0 two) 4 1 ∷ onto (ligature 24 0 (2 ∷ 6 ∷ [])) 4 1 ∷ onto (ligature 24 1 two) 4 1 ∷ [] ≡ (stop [] ∷ stop [] ∷ stop [] ∷ [])
   -- a base coverage of offset 0 declines before the search, an empty one does search; an uncovered mark declines first of all

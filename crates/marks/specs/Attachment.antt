@@ -18,7 +18,7 @@ use Rattle.answers.specs.Outcome.{Call}
 use Rattle.marks.specs.Plan.{Plan, stop, endless, hang, fits, planOf, planSaid}
 use Rattle.marks.specs.declared.mark_pos.Target.{Target}
 
--- base anchor less mark anchor, scaled once
+-- how far the base's anchor is from the mark's: the difference is scaled, not each of the two
 abbrev pub anchorDelta : ℕ → ℕ → Axis → Point → Point → ℤ
 anchorDelta s u a base mark = scaled (coordinate a base -ℤ coordinate a mark) s u
 

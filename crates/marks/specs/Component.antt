@@ -5,8 +5,8 @@ use lib.Dec.{eqb, ltb}
 use Rattle.ints.specs.Choice.{if_then_else_}
 use Rattle.slots.specs.Slot.{Slot}
 
--- The component of a ligature with n of them that a mark attaches to, counted from 0: its own, where ids are equal and
--- non-zero and its component is above 0; else the last.
+-- The component of a ligature with n of them that a mark attaches to, counted from 0: its own, at most
+-- the last, where the two have the same id, other than 0, and its component isn't 0; else the last.
 abbrev pub componentIndex : ℕ → Slot → Slot → ℕ
 componentIndex n mark lig =
     if not (eqb (lig .ligatureId) 0) && (eqb (lig .ligatureId) (mark .ligatureId) && ltb 0 (mark .component))

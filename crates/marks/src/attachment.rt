@@ -110,7 +110,7 @@ fn attach_mark(
     slots::fields::set_byte(line, shape, idx, ByteField::AttachType, MARK_TYPE);
 }
 
-// Base anchor less mark anchor, scaled once.
+// How far the base's anchor is from the mark's: the difference is scaled, not each of the two.
 fn anchor_delta(base: Point, mark: Point, a: Axis, s: u32, u: u32) -> Signed
     requires { ⌜ Near16 base × Near16 mark × InScale s u ⌝ }
     ensures { λ r. ⌜ val r ≡ anchorDelta s u a (pointOf base) (pointOf mark) ⌝ }

@@ -1,4 +1,4 @@
--- The cases beside P5 and P6 of document 01, computed from the definitions: direction 0, s and u alike. Assumes nothing.
+-- The cases beside P5 and P6 of the worked sums, computed from the definitions: direction 0, s and u alike. Assumes nothing.
 use mathlib.Core.Path.{_≡_, refl}
 use mathlib.Core.Bool.{Bool, true, false}
 use mathlib.Core.List.{List, [], _∷_, map}

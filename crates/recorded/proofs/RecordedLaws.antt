@@ -56,9 +56,9 @@ hazards-by-second a b d r n m first second =
     (λ e. let other = second .0 e in cc (two d a n, two d b m), λ p. second .1 (ap (λ (l : List CHazard). getD l 1 d) p))
 
 -- where the numbers agree, the hazards decide
-pub answer-by-hazards : (a b : CAnswer) (r : Bool) → a .status ≡ b .status → a .refusal ≡ b .refusal → a .attached ≡ b .attached → a .hazards ≡ b .hazards → a .next ≡ b .next
+pub answer-by-hazards : (a b : CAnswer) (r : Bool) → a .status ≡ b .status → a .refusal ≡ b .refusal → a .attached ≡ b .attached → a .count ≡ b .count → a .next ≡ b .next
     → (r ≡ true ↔ a .hazard ≡ b .hazard) → r ≡ true ↔ a ≡ b
-answer-by-hazards a b r status refusal attached hazards next list = (
-  λ e. let hazard = list .0 e in λ i. record { status = status i; refusal = refusal i; attached = attached i; hazards = hazards i; next = next i; hazard = hazard i },
+answer-by-hazards a b r status refusal attached count next list = (
+  λ e. let hazard = list .0 e in λ i. record { status = status i; refusal = refusal i; attached = attached i; count = count i; next = next i; hazard = hazard i },
   λ p. list .1 (ap (λ (x : CAnswer). x .hazard) p),
 )

@@ -42,7 +42,7 @@ recordedAnswer head = record {
   status = numberAt head 13;
   refusal = numberAt head 14;
   attached = numberAt head 15;
-  hazards = numberAt head 16;
+  count = numberAt head 16;
   next = numberAt head 17;
   hazard = recordedHazard head 18 ∷ recordedHazard head 21 ∷ [];
 }

@@ -47,7 +47,7 @@ pub fn is_answer(a: CAnswer, b: CAnswer) -> bool
     if a.attached != b.attached {
         return false;
     }
-    if a.hazards != b.hazards {
+    if a.count != b.count {
         return false;
     }
     if a.next != b.next {

@@ -96,7 +96,7 @@ fn answer_of(head: &[u8; 96]) -> CAnswer
         status: number(head, 13),
         refusal: number(head, 14),
         attached: number(head, 15),
-        hazards: number(head, 16),
+        count: number(head, 16),
         next: place(head, 17),
         hazard: [hazard_at(head, 18), hazard_at(head, 21)],
     }

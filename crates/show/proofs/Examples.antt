@@ -1,4 +1,4 @@
--- Texts of numbers, and a row of document 01's example, worked out. Assumes nothing.
+-- Texts of numbers, and a row of the finishing program's example, worked out. Assumes nothing.
 use mathlib.Core.Path.{refl}
 use mathlib.Core.List.{[], _∷_}
 use native.Mathlib.Omega.{arith}

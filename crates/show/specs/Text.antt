@@ -29,8 +29,8 @@ pub data Grows : List ℕ → List (ℤ × ℕ) → List ℕ → Type 0 where
   then : {s t s′ : List ℕ} {z : ℤ} {b : ℕ} {zs : List (ℤ × ℕ)} → Grown z b s t → Grows t zs s′
       → Grows s ((z, b) ∷ zs) s′
 
--- what is printed of slot i: number, x advance, y advance, x offset, y offset, with single spaces between them and a
--- line end after the last
+-- what is printed of slot i: its number, its advances, its offsets, of each x before y, with single spaces between them
+-- and a line end after the last
 abbrev pub rowNumbers : ℕ → Slot → List (ℤ × ℕ)
 rowNumbers i s = (pos i, 32) ∷ (s .xAdvance, 32) ∷ (s .yAdvance, 32) ∷ (s .xOffset, 32) ∷ (s .yOffset, 10) ∷ []
 

@@ -1,4 +1,4 @@
--- Worked values by hand from document 01: a slot's bytes, the ranges of its fields, the line's length, parents, starting. They compute. Assumes nothing.
+-- Values worked by hand from the rules: a slot's bytes, the ranges of its fields, the line's length, parents, starting. They compute. Assumes nothing.
 use mathlib.Core.Bool.{Bool, true, false}
 use mathlib.Core.List.{List, [], _∷_, _++_, map}
 use mathlib.Core.Path.{_≡_, refl}
@@ -71,7 +71,7 @@ pub record Worked : Type 0 where
   pub fields : (slotOf full ≡ fullSlot 255 (minus 32768)) × (bytesOf 24 (fullSlot 255 (minus 32768)) ≡ full)
   -- with a cluster, both ways
   pub clusters-are : (slotOf clustered ≡ clusteredSlot) × (bytesOf 28 clusteredSlot ≡ clustered) × (bytesOf 24 clusteredSlot ≡ full)
-  -- bit 0 seen, bit 1 mark, bit 2 multiplied
+  -- the flags 1, 2 and 4, each alone and all but it
   pub flags-are : (map (flagIn Seen) (1 ∷ 6 ∷ []) ≡ (true ∷ false ∷ [])) × (map (flagIn Mark) (2 ∷ 5 ∷ []) ≡ (true ∷ false ∷ []))
       × (map (flagIn Multiplied) (4 ∷ 3 ∷ []) ≡ (true ∷ false ∷ []))
   -- refusal 1: an empty line is whole; so is one slot, one byte more or less is not

@@ -1,4 +1,4 @@
--- What documents 01 and 02 refuse of a line itself: refusals 1 and 4. Assumes nothing.
+-- For what a line itself is refused: refusals 1 and 4. Assumes nothing.
 use mathlib.Core.Bool.{Bool, false, not, _||_}
 use mathlib.Core.List.{List, [], _∷_}
 use Prim.Native.Nat.{ℕ, _*_, _%_}

@@ -35,7 +35,7 @@ withIdentity g i c f s =
 abbrev pub withGlyph : ℕ → Slot → Slot
 withGlyph g s = withIdentity g (s .ligatureId) (s .component) (s .flags) s
 
--- is the flag set in a byte of flags? bit 0 seen, bit 1 mark, bit 2 multiplied
+-- is the flag set in a byte of flags? 1 seen, 2 mark, 4 multiplied
 abbrev pub flagIn : Flag → ℕ → Bool
 flagIn Seen n = eqb (n % 2) 1
 flagIn Mark n = eqb (n / 2 % 2) 1
@@ -46,7 +46,7 @@ abbrev pub flagOf : Flag → Slot → Bool
 flagOf f s = flagIn f (s .flags)
 
 -- ---- how it is attached: type and chain
--- attached by the type t, with the parent c slots on
+-- attached by the type t, with the parent c slots further on
 abbrev pub attached : ℕ → ℤ → Slot → Slot
 attached t c s =
     record {

@@ -1,4 +1,4 @@
--- What a slot hangs on: the parent is slot number plus chain. Assumes nothing.
+-- What a slot hangs on: its parent, as many slots further on as its chain says. Assumes nothing.
 use mathlib.Core.Bool.{Bool, not}
 use mathlib.Core.List.{List}
 use Prim.Native.Nat.{ℕ, zero, suc}

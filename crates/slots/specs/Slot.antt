@@ -9,8 +9,8 @@ use Rattle.ints.specs.BigEndian.{digits, natAt}
 use Rattle.ints.specs.Signed.{intAt, pattern}
 
 -- the glyph; its ligature id and component; its flags (1 seen, 2 mark, 4 multiplied); how it is attached (1 mark, 2
--- cursive) and how many slots on its parent is (0: not attached); its advances and its offsets; its cluster, which says
--- what letter it came from
+-- cursive) and how many slots further on its parent is (0: not attached); its advances and its offsets; its cluster,
+-- which says what letter it came from
 pub record Slot : Type 0 where
   pub glyph : ℕ
   pub ligatureId : ℕ

@@ -28,7 +28,7 @@ pub fn start_line(line: &mut [u8], shape: Shape)
     clear_all(line, CLUSTERED_SIZE, n);
 }
 
-// Each slot's bytes are lent on as a part that starts in the middle of the line.
+// Each slot's bytes are lent on, as a part of the line.
 fn clear_all(line: &mut [u8], size: usize, n: usize)
     requires { ⌜ Fits (shapeWith size n) (now line) ⌝ }
     ensures { λ _. ⌜ slots (shapeWith size n) (now (line .exit))

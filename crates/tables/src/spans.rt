@@ -18,7 +18,7 @@ pub const RANGE_RECORD_SIZE: usize = 6;
 
 pub const END_GLYPH_ID: usize = 2;
 
-// Whether the spans ascend strictly: each starts above the end before it, and not above its own end. A span has
+// Whether the spans ascend strictly: none ends before it starts, and the next starts above its end. A span has
 // `stride` bytes, and its last glyph is `over` bytes after its first.
 pub fn ascending(t: &[u8], stride: usize, over: usize, count: usize) -> bool
     requires { ⌜ (over + 2 ≤ stride) × (stride ≤ rangeRecordSize) × (count < whole16)

@@ -1,4 +1,4 @@
--- Worked values by hand from document 01: records cut, empty and full, devices, directions, the scale. They compute. Assumes nothing.
+-- Values worked by hand from the rules: records cut, empty and full, devices, directions, the scale. They compute. Assumes nothing.
 use mathlib.Core.Path.{_≡_, refl}
 use mathlib.Core.Bool.{Bool, true, false}
 use mathlib.Core.List.{List, [], _∷_, map}

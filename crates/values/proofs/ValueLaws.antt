@@ -149,7 +149,7 @@ module _ (s u : ℕ) (d : Direction) (r : List ℕ) (f i : ℕ) (ss : List Slot)
   abbrev pub Whole : List Slot → Bool → Type 0
   Whole next w = (next ≡ update i (valued s u d r f) ss) × (w ≡ worked d r f)
 
-  -- a cut record does nothing and has not worked; another is its eight fields
+  -- a cut record changes nothing and hasn't worked; another is its eight fields
   record-cut : length r < recordLength f → Whole ss false
   unfolding valued worked update
   record-cut h =

@@ -33,8 +33,8 @@ xAdvanceBit = 2
 abbrev pub yAdvanceBit : ℕ
 yAdvanceBit = 3
 
--- The rule. Placements always apply; the x advance when horizontal; the y advance, subtracted, when vertical; devices
--- never.
+-- The rule. Both placements apply in every direction. Of the advances only the one along the line does: x is added, y
+-- is subtracted. Device offsets never apply.
 unfoldable pub effectOf : Direction → ℕ → FieldEffect
 effectOf d b =
     if eqb b xPlacementBit then added Offset X

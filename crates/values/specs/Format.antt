@@ -23,8 +23,7 @@ unfoldable pub setBelow : ℕ → ℕ → ℕ
 setBelow f zero = 0
 setBelow f (suc b) = setBelow f b + bitOf f b
 
--- a record's length in bytes is twice the number of set bits, and the place of field b twice the number of set bits
--- below it
+-- two bytes for each bit that is set: the length of a record, and by the bits below b the place of field b
 abbrev pub recordLength : ℕ → ℕ
 recordLength f = 2 * setBelow f 8
 

@@ -39,6 +39,6 @@ cut r f = ltb (length r) (recordLength f)
 unfoldable pub valued : ℕ → ℕ → Direction → List ℕ → ℕ → Slot → Slot
 valued s u d r f slot = if cut r f then slot else withFields s u d r f 8 slot
 
--- the record worked: some applied field is non-zero; a cut record has not
+-- the record worked: one of its fields does; a cut record has not
 unfoldable pub worked : Direction → List ℕ → ℕ → Bool
 worked d r f = if cut r f then false else fieldsWork d r f 8

@@ -1,4 +1,4 @@
-// What a field does: one table of four directions by eight fields.
+// What a field does, by the direction: a table with an entry for each of the eight fields in each of the four.
 use slots::axis::Direction;
 ghost use mathlib.Core.Path.{_≡_};
 ghost use Prim.Native.Nat.{_<_};
@@ -16,7 +16,7 @@ pub const ADD_X_ADVANCE: u8 = 3;
 
 pub const SUB_Y_ADVANCE: u8 = 4;
 
-// The fields are x placement, y placement, x advance, y advance and four device offsets.
+// The fields in the order of their bits: the placements, the advances, four device offsets.
 const EFFECTS: [u8; 32] = [
     ADD_X_OFFSET, // left to right: x placement
     ADD_Y_OFFSET, // left to right: y placement

@@ -30,7 +30,7 @@ ghost use Rattle.values.specs.FieldEffect.{withEffect};
 ghost use Rattle.values.specs.Value.{fieldWorks, valued, withField, worked};
 
 // The record r applied to slot i, field by field in bit order: whether it worked. An empty one, cut or of a format
-// without fields, does nothing and has not worked.
+// without fields, changes nothing and hasn't worked.
 pub fn apply_value(
     line: &mut [u8],
     shape: Shape,

@@ -24,7 +24,7 @@ penOf false zs i = total (drop (suc i) zs)
 abbrev pub pen : Direction → Axis → List Slot → ℕ → ℤ
 pen d a l i = penOf (forward d) (advances a l) i
 
--- drawn place: pen place plus offset
+-- drawn place: the pen place, moved by the offset
 abbrev pub drawn : Direction → Axis → List Slot → ℕ → ℤ
 drawn d a l i = pen d a l i +ℤ offset a (slot l i)
 

@@ -2,7 +2,7 @@
 use Prim.Native.Nat.{ℕ, _≤_}
 use Rattle.ints.specs.Scale.{leastUpem, mostS, mostUpem}
 
--- s and u as document 01 allows them
+-- s and u in their ranges
 pub record InScale (s u : ℕ) : Type 0 where
   pub s-low : 1 ≤ s
   pub s-high : s ≤ mostS

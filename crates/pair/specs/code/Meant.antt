@@ -11,7 +11,7 @@ use Rattle.pair.specs.declared.plan.Plan.the-variants.{Stop, Adjust}
 use Rattle.pair.specs.declared.pair_set.Probe.{Probe}
 use Rattle.pair.specs.declared.pair_set.Probe.the-variants.{Found, Nothing, Cut}
 
--- the plan that code's plan stands for: its table is the part of the subtable t from an offset to the end
+-- the plan that code's plan stands for: its table is what the subtable t has from an offset on
 abbrev pub meant : List ℕ → CodePlan → Plan
 meant t (Stop hazards) = stop (ranges hazards)
 meant t (Adjust offset at second) = adjust (drop offset t) at second

@@ -15,7 +15,7 @@ returns-3 : tie.Need-returns-3
 returns-3 c = differ (λ (a : CAnswer). a .attached) _ _ (c .if3 .taken)
 
 returns-4 : tie.Need-returns-4
-returns-4 c = differ (λ (a : CAnswer). a .hazards) _ _ (c .if4 .taken)
+returns-4 c = differ (λ (a : CAnswer). a .count) _ _ (c .if4 .taken)
 
 returns-5 : tie.Need-returns-5
 returns-5 c = differ (λ (a : CAnswer). a .next) _ _ (c .if5 .taken)
