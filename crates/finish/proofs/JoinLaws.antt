@@ -17,8 +17,8 @@ use Rattle.slots.specs.declared.axis.Direction.{Direction}
 use Rattle.slots.specs.declared.axis.Direction.the-variants.{LeftToRight, RightToLeft, TopToBottom, BottomToTop}
 use Rattle.slots.specs.declared.fields.Measure.the-variants.{Offset}
 use Rattle.slots.proofs.LineLaws.{update-both, update-none}
-use Rattle.finish.specs.Finish.{isMain, takenIn, mark, cursive, neither, attachKind, newOffset, newOffsetBy, shifted, withOffsets}
-use Rattle.finish.proofs.WalkLaws.{Walked}
+use Rattle.finish_rules.specs.Finish.{isMain, takenIn, mark, cursive, neither, attachKind, newOffset, newOffsetBy, shifted, withOffsets}
+use Rattle.finish_rules.proofs.WalkLaws.{Walked}
 
 -- what a mark walks from: its own offset, on the main axis with its parent's added
 abbrev pub markFrom : Bool → ℤ → ℤ → ℤ

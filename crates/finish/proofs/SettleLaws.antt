@@ -21,8 +21,8 @@ use Rattle.slots.specs.declared.parent.Parent.the-variants.{None, Outside, InLi
 use Rattle.slots.specs.declared.shape.Shape.{Shape}
 use Rattle.slots.proofs.LineLaws.{length-slots}
 use Rattle.slots.proofs.ParentLaws.{cleared-is, parent-in-line, parent-none}
-use Rattle.finish.specs.Finish.{finished, takenIn, settled, settledDown, settledUp}
-use Rattle.finish.proofs.SettledLaws.{settled-at, settled-none, settled-outside, settled-stop}
+use Rattle.finish_rules.specs.Finish.{finished, takenIn, settled, settledDown, settledUp}
+use Rattle.finish_rules.proofs.SettledLaws.{settled-at, settled-none, settled-outside, settled-stop}
 
 -- a parent in the line is a slot of its bytes
 pub parent-counted : (w : Shape) (l : List ℕ) (i j : ℕ) {p : Parent} → p ≡ parent (slots w l) i → p ≡ InLine j → j < w .count

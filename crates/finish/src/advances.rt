@@ -18,7 +18,7 @@ ghost use Rattle.ints.specs.Sums.{stepwise};
 ghost use Rattle.slots.specs.code.Shape.{Fits, Inside};
 ghost use Rattle.slots.specs.Line.{slots};
 ghost use Rattle.slots.specs.declared.axis.Axis.the-variants.{X, Y};
-ghost use Rattle.finish.specs.Finish.{advances, stepBy, shifted};
+ghost use Rattle.finish_rules.specs.Finish.{advances, stepBy, shifted};
 
 // A slot's two offsets. The field that is later in a slot comes first: both are then written by one store.
 pub struct Offsets {

@@ -6,7 +6,7 @@ ghost use mathlib.Core.Bool.{true};
 ghost use mathlib.Core.Path.{_≡_};
 ghost use Rattle.slots.specs.code.Shape.{Fits};
 ghost use Rattle.slots.specs.Line.{slots};
-ghost use Rattle.finish.specs.Finish.{finished, settledDown, settledUp};
+ghost use Rattle.finish_rules.specs.Finish.{finished, settledDown, settledUp};
 
 // The most parents that are followed from a slot.
 pub const MAX_NESTING_LEVEL: u32 = 64;

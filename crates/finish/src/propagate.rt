@@ -6,7 +6,7 @@ use slots::shape::Shape;
 ghost use mathlib.Core.Path.{_≡_};
 ghost use Rattle.slots.specs.code.Shape.{Inside};
 ghost use Rattle.slots.specs.Line.{shapeWith, slots};
-ghost use Rattle.finish.specs.Finish.{settled};
+ghost use Rattle.finish_rules.specs.Finish.{settled};
 
 // The same for a slot of the two loops, whose parent mostly is settled already: then no call is deeper than this.
 pub fn settle_slot(line: &mut [u8], shape: Shape, d: Direction, i: usize, limit: u32)

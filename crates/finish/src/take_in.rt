@@ -17,7 +17,7 @@ ghost use Rattle.ints.specs.code.Signed.{val};
 ghost use Rattle.slots.specs.code.Shape.{Inside};
 ghost use Rattle.slots.specs.Line.{shapeWith, slot, slots};
 ghost use Rattle.slots.specs.Fields.{offset};
-ghost use Rattle.finish.specs.Finish.{isMain, takenIn};
+ghost use Rattle.finish_rules.specs.Finish.{isMain, takenIn};
 
 // Slot i takes its parent j in. The type is compared as a whole byte: any other adds nothing.
 pub fn take_in(line: &mut [u8], size: usize, n: usize, d: Direction, i: usize, j: usize)

@@ -4,7 +4,7 @@ use mathlib.Core.List.{List}
 use Prim.Native.Nat.{ℕ}
 use lib.Dec.{ltb}
 use Rattle.slots.specs.Axis.{directionOf}
-use Rattle.finish.specs.Finish.{finished, maxNestingLevel}
+use Rattle.finish_rules.specs.Finish.{finished, maxNestingLevel}
 use Rattle.answers.specs.Outcome.{Call, Made}
 use Rattle.answers.specs.Said.{done, saidDone, unless}
 use Rattle.answers.specs.declared.Done.{Done}

@@ -29,7 +29,7 @@ use Rattle.marks.specs.Plan.{planOf as markPlan, planSaid as markSaid}
 use Rattle.marks.specs.declared.mark_pos.Target.{Target}
 use Rattle.theorems.proofs.MarkClusters as marks
 use Rattle.theorems.proofs.FinishClusters as finish
-use Rattle.finish.proofs.SettledLaws.{finished-count}
+use Rattle.finish_rules.proofs.SettledLaws.{finished-count}
 use Rattle.answers.specs.Outcome.{answerTo, Call, lineAfter, Made}
 use Rattle.answers.specs.Said.{Said, applied, declined, done, refused, unless}
 use Rattle.answers.specs.declared.Neighbour.{Neighbour}

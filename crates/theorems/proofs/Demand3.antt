@@ -10,10 +10,10 @@ use Rattle.slots.specs.Axis.{directionOf}
 use Rattle.slots.specs.Checks.{badLine}
 use Rattle.slots.specs.Line.{lineSlots}
 use Rattle.slots.proofs.LineLaws.{known-size, slots-bytes, slots-storable}
-use Rattle.finish.specs.theorems.Demand3.{Bounded, Demand3}
-use Rattle.finish.specs.Finish.{finished}
-use Rattle.finish.proofs.Storable.{finished-storable}
-use Rattle.finish.proofs.Theorem.{demand3}
+use Rattle.finish_rules.specs.theorems.Demand3.{Bounded, Demand3}
+use Rattle.finish_rules.specs.Finish.{finished}
+use Rattle.finish_rules.proofs.Storable.{finished-storable}
+use Rattle.finish_rules.proofs.Theorem.{demand3}
 use Rattle.answers.specs.Said.{Said, done, refused}
 use Rattle.answers.specs.Outcome.{lineAfter}
 use Rattle.answers.specs.declared.Done.the-variants.{Done as DoneNow}

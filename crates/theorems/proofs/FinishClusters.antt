@@ -13,8 +13,8 @@ use Rattle.slots.specs.declared.axis.Axis.the-variants.{X, Y}
 use Rattle.slots.specs.declared.axis.Direction.{Direction}
 use Rattle.slots.specs.declared.fields.Measure.the-variants.{Offset}
 use Rattle.theorems.proofs.ClusterLaws.{advances-blind, blind-by, by-parent-keeps, cleared-keeps, if-keeps, keeps-after, keeps-by, length-blind, measure-blind, parent-blind, same-keeps, type-blind, update-keeps}
-use Rattle.finish.specs.Finish.{finished, isMain, takenIn, attachKind, newOffset, settled, settledDown, settledUp, newOffsetBy, shifted, withOffsets}
-use Rattle.finish.proofs.Pens.{walked-same}
+use Rattle.finish_rules.specs.Finish.{finished, isMain, takenIn, attachKind, newOffset, settled, settledDown, settledUp, newOffsetBy, shifted, withOffsets}
+use Rattle.finish_rules.proofs.Pens.{walked-same}
 
 module _ (d : Direction) where
   -- the advances between two slots put to a number

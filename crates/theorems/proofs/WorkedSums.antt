@@ -38,7 +38,7 @@ use Rattle.marks.specs.Plan.{planOf as markPlan}
 use Rattle.marks.specs.Search.{stopsAt}
 use Rattle.marks.specs.Walk.{crossOffset, crossOffsetIn}
 use Rattle.marks.specs.declared.mark_pos.Target.the-variants.{Ligature}
-use Rattle.finish.specs.Finish.{finished, takenIn, settled, settledUp, shifted}
+use Rattle.finish_rules.specs.Finish.{finished, takenIn, settled, settledUp, shifted}
 use Rattle.answers.specs.Said.{applied, unsafeToBreak, unsafeToConcat, Said}
 use Rattle.answers.specs.declared.Neighbour.the-variants.{Named}
 use Rattle.gpos.specs.CursivePos.{cursive as cursiveCall}

@@ -10,8 +10,8 @@ use Rattle.slots.specs.Slot.{Slot}
 use Rattle.slots.specs.code.Shape.{Fits, partShape}
 use Rattle.slots.specs.Line.{slots}
 use Rattle.slots.specs.declared.shape.Shape.{Shape}
-use Rattle.finish.specs.Finish.{subtracts}
-use Rattle.finish.proofs.WalkLaws.{Side, Stepped, Walked, walkPart, walked-part}
+use Rattle.finish_rules.specs.Finish.{subtracts}
+use Rattle.finish_rules.proofs.WalkLaws.{Side, Stepped, Walked, walkPart, walked-part}
 use borrow.Author.Needs.{needs}
 use Rattle.finish.proofs.advances.shift.Statement.{statement}
 use Rattle.finish.proofs.advances.shift.Tie as tie

@@ -9,8 +9,8 @@ use Rattle.ints.specs.Sums.{stepwise}
 use Rattle.slots.specs.Line.{slots}
 use Rattle.slots.specs.declared.axis.Axis.the-variants.{X, Y}
 use Rattle.slots.proofs.LineLaws.{length-slots}
-use Rattle.finish.specs.Finish.{advances, stepBy}
-use Rattle.finish.proofs.WalkLaws.{steps-all, steps-more}
+use Rattle.finish_rules.specs.Finish.{advances, stepBy}
+use Rattle.finish_rules.proofs.WalkLaws.{steps-all, steps-more}
 use Rattle.finish.proofs.advances.step_all.Statement.{statement}
 use Rattle.finish.proofs.advances.step_all.Tie as tie
 

@@ -5,7 +5,7 @@ use native.Mathlib.Omega.{arith}
 use borrow.Author.Needs.{needs}
 use lib.ListN.{length}
 use Rattle.slots.specs.Line.{slots}
-use Rattle.finish.specs.Finish.{settledDown}
+use Rattle.finish_rules.specs.Finish.{settledDown}
 use Rattle.finish.proofs.SettleLaws.{down-done, down-more}
 use Rattle.finish.proofs.finishing.settle_down.Statement.{statement}
 use Rattle.finish.proofs.finishing.settle_down.Tie as tie

@@ -5,7 +5,7 @@ use native.Mathlib.Omega.{arith}
 use borrow.Author.Needs.{needs}
 use lib.ListN.{length}
 use Rattle.slots.specs.Line.{slots}
-use Rattle.finish.specs.Finish.{settledUp}
+use Rattle.finish_rules.specs.Finish.{settledUp}
 use Rattle.finish.proofs.SettleLaws.{up-more}
 use Rattle.finish.proofs.finishing.settle_up.Statement.{statement}
 use Rattle.finish.proofs.finishing.settle_up.Tie as tie

@@ -6,7 +6,7 @@ use native.Mathlib.Omega.{arith}
 use lib.ListN.{length}
 use Rattle.ints.specs.Signed.{signed}
 use Rattle.slots.specs.Line.{slots}
-use Rattle.finish.specs.Finish.{settled}
+use Rattle.finish_rules.specs.Finish.{settled}
 use Rattle.finish.proofs.SettleLaws.{parent-counted, settles-at, settles-none, settles-outside, settles-stop, settles-unattached}
 use borrow.Author.Needs.{needs}
 use Rattle.finish.proofs.propagate.settle_slot.Statement.{statement}

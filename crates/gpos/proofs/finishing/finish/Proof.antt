@@ -4,7 +4,7 @@ use mathlib.Core.Bool.{Bool, true}
 use Rattle.slots.specs.Axis.{directionOf}
 use Rattle.slots.specs.Line.{slots}
 use Rattle.slots.specs.declared.axis.Direction.{Direction}
-use Rattle.finish.specs.Finish.{finished}
+use Rattle.finish_rules.specs.Finish.{finished}
 use Rattle.answers.specs.Outcome.{Call}
 use Rattle.gpos.specs.Finishing as gpos
 use Rattle.gpos.proofs.CheckLaws.{clear, done-so, refused-so}

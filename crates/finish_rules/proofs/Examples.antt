@@ -11,7 +11,7 @@ use Rattle.slots.specs.Line.{update}
 use Rattle.slots.specs.Fields.{attached, withPlace}
 use Rattle.slots.specs.Parent.{cleared, parent}
 use Rattle.slots.specs.declared.axis.Direction.the-variants.{LeftToRight, RightToLeft, TopToBottom}
-use Rattle.finish.specs.Finish.{finished, takenIn, settled, settledDown, settledUp, shifted}
+use Rattle.finish_rules.specs.Finish.{finished, takenIn, settled, settledDown, settledUp, shifted}
 
 -- a slot of the type k, with chain c, x advance a and offsets
 abbrev pub made : ℕ → ℤ → ℤ → ℤ → ℤ → Slot

@@ -20,11 +20,11 @@ use Rattle.slots.specs.declared.axis.Direction.{Direction}
 use Rattle.slots.specs.declared.fields.Measure.the-variants.{Offset}
 use Rattle.slots.proofs.FieldLaws.{free, measure-chain}
 use Rattle.slots.proofs.ParentLaws.{parent-in-line}
-use Rattle.finish.specs.Finish.{advances, isMain, AttachKind, mark, cursive, neither, attachKind, newOffsetBy, shifted, withOffsets}
-use Rattle.finish.specs.theorems.Demand3.{Bounded, pen}
-use Rattle.finish.proofs.Along.{along, along-holds}
-use Rattle.finish.proofs.Pens.{pen-near, walk-exact, walked-by}
-use Rattle.finish.proofs.WalkLaws.{getD-advances}
+use Rattle.finish_rules.specs.Finish.{advances, isMain, AttachKind, mark, cursive, neither, attachKind, newOffsetBy, shifted, withOffsets}
+use Rattle.finish_rules.specs.theorems.Demand3.{Bounded, pen}
+use Rattle.finish_rules.proofs.Along.{along, along-holds}
+use Rattle.finish_rules.proofs.Pens.{pen-near, walk-exact, walked-by}
+use Rattle.finish_rules.proofs.WalkLaws.{getD-advances}
 
 -- ---- the exact offsets
 -- the new offset on an axis, as `taken` has it, but exact; gap is how far the parent's pen place is past the own one

@@ -16,8 +16,8 @@ use Rattle.slots.specs.declared.axis.Direction.{Direction}
 use Rattle.slots.specs.declared.parent.Parent.{Parent}
 use Rattle.slots.specs.declared.parent.Parent.the-variants.{None, Outside, InLine}
 use Rattle.slots.proofs.ParentLaws.{chain-zero, cleared-count, cleared-other, cleared-own}
-use Rattle.finish.specs.Finish.{finished, settled, settledDown, settledUp}
-use Rattle.finish.proofs.SettledLaws.{finished-count, joined-chain, settled-at, settled-holds, settled-none, settled-outside, settled-stop}
+use Rattle.finish_rules.specs.Finish.{finished, settled, settledDown, settledUp}
+use Rattle.finish_rules.proofs.SettledLaws.{finished-count, joined-chain, settled-at, settled-holds, settled-none, settled-outside, settled-stop}
 
 -- slot k's chain
 abbrev chainAt : List Slot → ℕ → ℤ

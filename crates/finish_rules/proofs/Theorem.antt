@@ -18,12 +18,12 @@ use Rattle.slots.specs.declared.parent.Parent.the-variants.{None, Outside, InLi
 use Rattle.slots.specs.declared.fields.Measure.the-variants.{Advance, Offset}
 use Rattle.slots.proofs.FieldLaws.{free, measure-chain}
 use Rattle.slots.proofs.ParentLaws.{none-ends, outside-ends}
-use Rattle.finish.specs.Finish.{finished, isMain, attachKind, withOffsets}
-use Rattle.finish.specs.theorems.Demand3.{Bounded, Cursive, Demand3, Kept, Mark, pen}
-use Rattle.finish.proofs.Along.{along-holds}
-use Rattle.finish.proofs.Exact.{exact, final, offset-onto, onto}
-use Rattle.finish.proofs.SettledLaws.{advance-moved, finished-advances, finished-count}
-use Rattle.finish.proofs.Settling.{fin-at, fin-end, final-chain, finished-slot}
+use Rattle.finish_rules.specs.Finish.{finished, isMain, attachKind, withOffsets}
+use Rattle.finish_rules.specs.theorems.Demand3.{Bounded, Cursive, Demand3, Kept, Mark, pen}
+use Rattle.finish_rules.proofs.Along.{along-holds}
+use Rattle.finish_rules.proofs.Exact.{exact, final, offset-onto, onto}
+use Rattle.finish_rules.proofs.SettledLaws.{advance-moved, finished-advances, finished-count}
+use Rattle.finish_rules.proofs.Settling.{fin-at, fin-end, final-chain, finished-slot}
 
 -- the main axis is the main one, the cross axis is not
 main-is : (d : Direction) → isMain d (main d) ≡ true

@@ -20,8 +20,8 @@ use Rattle.slots.specs.declared.axis.Axis.the-variants.{X, Y}
 use Rattle.slots.specs.declared.axis.Direction.{Direction}
 use Rattle.slots.specs.Parent.{cleared}
 use Rattle.slots.proofs.FieldLaws.{free}
-use Rattle.finish.specs.Finish.{advances, between, finished, takenIn, AttachKind, mark, cursive, neither, attachKind, isMain, newOffset, stepBy, subtracts, newOffsetBy, shifted, withOffsets}
-use Rattle.finish.proofs.SettledLaws.{finished-holds}
+use Rattle.finish_rules.specs.Finish.{advances, between, finished, takenIn, AttachKind, mark, cursive, neither, attachKind, isMain, newOffset, stepBy, subtracts, newOffsetBy, shifted, withOffsets}
+use Rattle.finish_rules.proofs.SettledLaws.{finished-holds}
 
 -- ---- one slot of a line
 empty-storable : (z : ℕ) → Storable z noSlot

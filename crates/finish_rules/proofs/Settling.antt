@@ -22,12 +22,12 @@ use Rattle.slots.specs.declared.parent.Parent.the-variants.{None, Outside, InLi
 use Rattle.slots.specs.declared.fields.Measure.the-variants.{Offset}
 use Rattle.slots.proofs.FieldLaws.{free, measure-chain}
 use Rattle.slots.proofs.ParentLaws.{at-hangs, chain-zero, child-in-line, cleared-count, cleared-other, cleared-own, none-ends, outside-ends, outside-hangs, parent-in-line, parent-none, parent-same}
-use Rattle.finish.specs.Finish.{advances, finished, isMain, takenIn, attachKind, newOffset, settled, settledDown, settledUp, withOffsets}
-use Rattle.finish.specs.theorems.Demand3.{Bounded}
-use Rattle.finish.proofs.Along.{along, along-at, along-end, along-holds}
-use Rattle.finish.proofs.Pens.{walked-same}
-use Rattle.finish.proofs.Exact.{exactOffset, final, final-near, onto, taken-exact}
-use Rattle.finish.proofs.SettledLaws.{cleared-advances, joined-advances, joined-count, joined-other, joined-own, settled-at, settled-holds, settled-none, settled-outside}
+use Rattle.finish_rules.specs.Finish.{advances, finished, isMain, takenIn, attachKind, newOffset, settled, settledDown, settledUp, withOffsets}
+use Rattle.finish_rules.specs.theorems.Demand3.{Bounded}
+use Rattle.finish_rules.proofs.Along.{along, along-at, along-end, along-holds}
+use Rattle.finish_rules.proofs.Pens.{walked-same}
+use Rattle.finish_rules.proofs.Exact.{exactOffset, final, final-near, onto, taken-exact}
+use Rattle.finish_rules.proofs.SettledLaws.{cleared-advances, joined-advances, joined-count, joined-other, joined-own, settled-at, settled-holds, settled-none, settled-outside}
 
 -- how many hops a chain has, counted up to n
 abbrev hopsIn : List Slot → ℕ → ℕ → ℕ

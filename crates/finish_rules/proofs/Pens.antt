@@ -19,9 +19,9 @@ use Rattle.slots.specs.Slot.{Slot}
 use Rattle.slots.specs.Fields.{advance}
 use Rattle.slots.specs.declared.axis.Axis.{Axis}
 use Rattle.slots.specs.declared.axis.Direction.{Direction}
-use Rattle.finish.specs.Finish.{advances, between, stepBy, subtracts, shifted}
-use Rattle.finish.specs.theorems.Demand3.{penOf}
-use Rattle.finish.proofs.WalkLaws.{Side, between-is, side-is, walkPart}
+use Rattle.finish_rules.specs.Finish.{advances, between, stepBy, subtracts, shifted}
+use Rattle.finish_rules.specs.theorems.Demand3.{penOf}
+use Rattle.finish_rules.proofs.WalkLaws.{Side, between-is, side-is, walkPart}
 
 -- ---- the sum from the front, and the sum from the back, of what is between
 front : (lo hi : ℕ) (zs : List ℤ) → lo ≤ hi → total (take hi zs) ≡ total (take lo zs) +ℤ total (slice lo hi zs)

@@ -14,7 +14,7 @@ use Rattle.slots.specs.Parent.{parent}
 use Rattle.slots.specs.declared.axis.Axis.{Axis}
 use Rattle.slots.specs.declared.axis.Direction.{Direction}
 use Rattle.slots.specs.declared.parent.Parent.the-variants.{InLine}
-use Rattle.finish.specs.Finish.{advances, maxNestingLevel}
+use Rattle.finish_rules.specs.Finish.{advances, maxNestingLevel}
 
 -- pen place: the sum of the advances of earlier slots in a forward direction, of later slots in a backward one
 unfoldable pub penOf : Bool → List ℤ → ℕ → ℤ

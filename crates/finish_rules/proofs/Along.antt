@@ -6,7 +6,7 @@ use Rattle.slots.specs.Slot.{Slot}
 use Rattle.slots.specs.Parent.{byParent, parent}
 use Rattle.slots.specs.declared.parent.Parent.{Parent}
 use Rattle.slots.specs.declared.parent.Parent.the-variants.{None, Outside, InLine}
-use Rattle.finish.specs.theorems.Demand3.{EndsWithin}
+use Rattle.finish_rules.specs.theorems.Demand3.{EndsWithin}
 
 module _ {A : Type 0} (l : List Slot) (base : ℕ → A) (step : ℕ → ℕ → A → A) where
   -- by at most n hops from slot i: `base` where the chain ends, `step` from a parent to its child

@@ -21,7 +21,7 @@ use Rattle.slots.specs.declared.fields.Measure.the-variants.{Advance}
 use Rattle.slots.proofs.FieldLaws.{free, measure-chain}
 use Rattle.slots.proofs.LineLaws.{length-update, update-other, update-same}
 use Rattle.slots.proofs.ParentLaws.{cleared-count}
-use Rattle.finish.specs.Finish.{advances, finished, takenIn, newOffset, settled, settledDown, settledUp, withOffsets}
+use Rattle.finish_rules.specs.Finish.{advances, finished, takenIn, newOffset, settled, settledDown, settledUp, withOffsets}
 
 -- ---- one way through `settled` for each kind of parent
 module _ (d : Direction) (m : List Slot) (i : ℕ) where

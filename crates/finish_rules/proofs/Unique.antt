@@ -21,10 +21,10 @@ use Rattle.slots.specs.declared.axis.Direction.the-variants.{LeftToRight, Right
 use Rattle.slots.specs.declared.parent.Parent.{Parent}
 use Rattle.slots.specs.declared.parent.Parent.the-variants.{None, Outside, InLine}
 use Rattle.slots.proofs.ParentLaws.{none-ends, outside-ends}
-use Rattle.finish.specs.Finish.{advances, finished}
-use Rattle.finish.specs.theorems.Demand3.{Bounded, Cursive, Demand3, EndsWithin, Kept, Mark, pen, penOf}
-use Rattle.finish.proofs.WalkLaws.{getD-advances}
-use Rattle.finish.proofs.Theorem.{demand3}
+use Rattle.finish_rules.specs.Finish.{advances, finished}
+use Rattle.finish_rules.specs.theorems.Demand3.{Bounded, Cursive, Demand3, EndsWithin, Kept, Mark, pen, penOf}
+use Rattle.finish_rules.proofs.WalkLaws.{getD-advances}
+use Rattle.finish_rules.proofs.Theorem.{demand3}
 
 -- an axis is the main one or the cross one
 axis-is : (d : Direction) (a : Axis) → (a ≡ main d) ⊎ (a ≡ cross d)

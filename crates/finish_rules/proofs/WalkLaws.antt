@@ -19,7 +19,7 @@ use Rattle.slots.specs.Fields.{advance}
 use Rattle.slots.specs.declared.axis.Axis.{Axis}
 use Rattle.slots.specs.declared.axis.Axis.the-variants.{X, Y}
 use Rattle.slots.specs.declared.axis.Direction.{Direction}
-use Rattle.finish.specs.Finish.{advances, between, stepBy, subtracts, shifted}
+use Rattle.finish_rules.specs.Finish.{advances, between, stepBy, subtracts, shifted}
 
 -- the k-th of the advances is that of slot k
 pub getD-advances : (l : List Slot) (a : Axis) (k : ℕ) → getD (advances a l) k (pos 0) ≡ advance a (slot l k)

@@ -15,10 +15,10 @@ use Rattle.slots.specs.declared.fields.Measure.{Measure}
 use Rattle.slots.specs.declared.fields.Measure.the-variants.{Advance, Offset}
 use Rattle.slots.specs.declared.parent.Parent.the-variants.{InLine}
 use Rattle.slots.proofs.ParentLaws.{none-ends}
-use Rattle.finish.specs.Finish.{finished}
-use Rattle.finish.specs.theorems.Demand3.{Bounded, Demand3, EndsWithin, Mark}
-use Rattle.finish.proofs.Examples.{example}
-use Rattle.finish.proofs.Theorem.{demand3}
+use Rattle.finish_rules.specs.Finish.{finished}
+use Rattle.finish_rules.specs.theorems.Demand3.{Bounded, Demand3, EndsWithin, Mark}
+use Rattle.finish_rules.proofs.Examples.{example}
+use Rattle.finish_rules.proofs.Theorem.{demand3}
 
 -- the base ends its chain, and each hop to the slot before is one more
 base : (n : ℕ) → EndsWithin example n 0

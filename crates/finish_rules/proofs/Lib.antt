@@ -1,0 +1,12 @@
+pub mod WalkLaws
+pub mod SettledLaws
+pub mod Clears
+pub mod Storable
+pub mod Along
+pub mod Pens
+pub mod Exact
+pub mod Settling
+pub mod Theorem
+pub mod Unique
+pub mod Examples
+pub mod Inhabited
