@@ -14,7 +14,7 @@ use Rattle.gpos.specs.Moving.{ToClustersCall, FromClustersCall}
 use Rattle.gpos.specs.PairPos.{PairCall}
 use Rattle.gpos.specs.SinglePos.{SingleCall}
 use Rattle.gpos.specs.Starting.{StartCall}
-use Rattle.marks.specs.declared.mark_pos.Target.the-variants.{Base, Ligature}
+use Rattle.targets.specs.declared.mark_pos.Target.the-variants.{Base, Ligature}
 use Rattle.gpos_c.specs.Layout.{doneNumber, toC, laid, IsLayoutOf, movedNumber, neighbour, set}
 use Rattle.gpos_c.specs.declared.layout.CAnswer.{CAnswer}
 use Rattle.recorded.specs.Recorded.{afterwards}

@@ -3,7 +3,7 @@ use mathlib.Core.Path.{_≡_}
 use mathlib.Core.Bool.{Bool}
 use mathlib.Core.List.{List}
 use Prim.Native.Nat.{ℕ}
-use Rattle.marks.specs.declared.mark_pos.Target.{Target}
+use Rattle.targets.specs.declared.mark_pos.Target.{Target}
 use Rattle.answers.specs.declared.Neighbour.{Neighbour}
 use Rattle.answers.specs.Said.{said, saidDone, saidMoved}
 use Rattle.answers.proofs.OutcomeLaws.{one-outcome}

@@ -4,9 +4,9 @@ use mathlib.Core.List.{List}
 use Prim.Native.Nat.{ℕ}
 use lib.Dec.{leb}
 use lib.ListN.{length}
+use Rattle.targets.specs.MarkPos.{marksGood}
+use Rattle.targets.specs.declared.mark_pos.Target.{Target}
 use Rattle.marks.specs.Attachment.{markAttachment}
-use Rattle.marks.specs.MarkPos.{marksGood}
-use Rattle.marks.specs.declared.mark_pos.Target.{Target}
 use Rattle.answers.specs.Outcome.{Call, Made}
 use Rattle.answers.specs.Said.{said}
 use Rattle.answers.specs.declared.Answer.{Answer}

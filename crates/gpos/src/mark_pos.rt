@@ -5,9 +5,9 @@ use crate::neighbours::Beside;
 use crate::neighbours::is_bad_place;
 use answers::Answer;
 use answers::Refusal;
-use marks::mark_pos::Target;
 use slots::axis::direction_of;
-ghost use Rattle.marks.specs.declared.mark_pos.Target.the-variants.{Base, Ligature};
+use targets::mark_pos::Target;
+ghost use Rattle.targets.specs.declared.mark_pos.Target.the-variants.{Base, Ligature};
 ghost use Rattle.gpos.specs.MarkPos.{MarkCall};
 
 // One call for both targets.
@@ -31,7 +31,7 @@ fn mark(
             if is_bad_place(shape.count, index, Beside::Nothing) {
                 return Answer::Refused(Refusal::Index);
             }
-            if marks::mark_pos::is_good(subtable) {
+            if targets::mark_pos::is_good(subtable) {
                 return marks::attachment::apply(
                     line,
                     shape,

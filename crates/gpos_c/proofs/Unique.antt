@@ -11,7 +11,7 @@ use Rattle.gpos.specs.SinglePos.{SingleCall}
 use Rattle.gpos.specs.Starting.{StartCall}
 use Rattle.gpos.proofs.Unique.{Unique}
 use Rattle.gpos.proofs.Unique as gpos
-use Rattle.marks.specs.declared.mark_pos.Target.{Target}
+use Rattle.targets.specs.declared.mark_pos.Target.{Target}
 use Rattle.gpos_c.specs.Layout.{doneNumber, toC, IsLayoutOf, movedNumber, neighbour, set}
 
 -- where a call leaves one answer and one line, so does its export

@@ -17,7 +17,7 @@ ghost use Rattle.gpos.specs.Moving.{ToClustersCall, FromClustersCall};
 ghost use Rattle.gpos.specs.PairPos.{PairCall};
 ghost use Rattle.gpos.specs.SinglePos.{SingleCall};
 ghost use Rattle.gpos.specs.Starting.{StartCall};
-ghost use Rattle.marks.specs.declared.mark_pos.Target.the-variants.{Base, Ligature};
+ghost use Rattle.targets.specs.declared.mark_pos.Target.the-variants.{Base, Ligature};
 ghost use Rattle.gpos_c.specs.Layout.{doneNumber, toC, IsLayoutOf, movedNumber, neighbour, set};
 
 #[no_mangle]

@@ -1,6 +1,4 @@
-pub mod MarkPosLaws
-pub mod SearchLaws
-pub mod WalkLaws
+pub mod AnchorsLaws
 pub mod PlanLaws
 pub mod AttachmentLaws
 pub mod Examples

@@ -9,10 +9,10 @@ use Rattle.slots.specs.Line.{slot}
 use Rattle.slots.specs.declared.axis.Axis.{Axis}
 use Rattle.tables.specs.declared.coverage.Covered.{Covered}
 use Rattle.tables.specs.declared.coverage.Covered.the-variants.{Index, Not}
-use Rattle.marks.specs.MarkPos.{baseCoverageOffset, markIndex}
+use Rattle.targets.specs.MarkPos.{baseCoverageOffset, markIndex}
+use Rattle.targets.specs.Search.{foundFor}
+use Rattle.targets.specs.declared.mark_pos.Target.{Target}
 use Rattle.marks.specs.Plan.{stop, planOf, afterCovered, afterSearch}
-use Rattle.marks.specs.Search.{foundFor}
-use Rattle.marks.specs.declared.mark_pos.Target.{Target}
 
 module _ (target : Target) (a : Axis) (t : List ℕ) (ss : List Slot) (idx g : ℕ) (read : g ≡ slot ss idx .glyph) (c : Covered) (is : c ≡ markIndex t g) where
   by-cover : planOf target a t ss idx ≡ afterCovered target a t ss idx c

@@ -13,12 +13,12 @@ use Rattle.tables.specs.Anchor.{Point}
 use Rattle.tables.specs.declared.coverage.Covered.{Covered}
 use Rattle.tables.specs.declared.coverage.Covered.the-variants.{Index, Not}
 use Rattle.answers.specs.Said.{applied, declined, Range, refused, Said}
+use Rattle.targets.specs.MarkPos.{baseCoverageOffset, baseIndex, markIndex}
+use Rattle.targets.specs.Search.{foundFor}
+use Rattle.targets.specs.Walk.{crossOffset}
+use Rattle.targets.specs.declared.mark_pos.Target.{Target}
 use Rattle.marks.specs.Anchors.{Anchors, both, missing, empty, anchorsFor}
-use Rattle.marks.specs.MarkPos.{baseCoverageOffset, baseIndex, markIndex}
 use Rattle.marks.specs.Plan.{planOf, planSaid, stop, afterAnchors, afterCovered, afterFound, afterSearch, afterWalk}
-use Rattle.marks.specs.Search.{foundFor}
-use Rattle.marks.specs.Walk.{crossOffset}
-use Rattle.marks.specs.declared.mark_pos.Target.{Target}
 
 module _ (P : Said → Type 0) (target : Target) (a : Axis) (t : List ℕ) (ss : List Slot) (idx : ℕ)
     (refuses : P (refused 7))

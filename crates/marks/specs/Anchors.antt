@@ -16,10 +16,10 @@ use Rattle.tables.specs.MarkArray.{MarkAnchor, markOf}
 use Rattle.tables.specs.Part.{childOf, tableAt}
 use Rattle.tables.specs.declared.anchor_rows.Rows.{Rows}
 use Rattle.tables.specs.declared.anchor_rows.Rows.the-variants.{Of, Absent}
-use Rattle.marks.specs.Component.{componentIndex}
-use Rattle.marks.specs.MarkPos.{baseArrayOffset, markArrayOffset, markClassCount}
-use Rattle.marks.specs.declared.mark_pos.Target.{Target}
-use Rattle.marks.specs.declared.mark_pos.Target.the-variants.{Base, Ligature}
+use Rattle.targets.specs.Component.{componentIndex}
+use Rattle.targets.specs.MarkPos.{baseArrayOffset, markArrayOffset, markClassCount}
+use Rattle.targets.specs.declared.mark_pos.Target.{Target}
+use Rattle.targets.specs.declared.mark_pos.Target.the-variants.{Base, Ligature}
 
 -- mark m of the MarkArray
 abbrev pub markAt : List ℕ → ℕ → Option MarkAnchor

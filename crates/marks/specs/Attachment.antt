@@ -15,8 +15,8 @@ use Rattle.slots.specs.declared.axis.Direction.{Direction}
 use Rattle.slots.specs.declared.fields.Measure.the-variants.{Offset}
 use Rattle.tables.specs.Anchor.{Point, coordinate}
 use Rattle.answers.specs.Outcome.{Call}
+use Rattle.targets.specs.declared.mark_pos.Target.{Target}
 use Rattle.marks.specs.Plan.{Plan, stop, endless, hang, fits, planOf, planSaid}
-use Rattle.marks.specs.declared.mark_pos.Target.{Target}
 
 -- how far the base's anchor is from the mark's: the difference is scaled, not each of the two
 abbrev pub anchorDelta : ℕ → ℕ → Axis → Point → Point → ℤ

@@ -14,11 +14,11 @@ use Rattle.tables.specs.Anchor.{Point}
 use Rattle.tables.specs.declared.coverage.Covered.{Covered}
 use Rattle.tables.specs.declared.coverage.Covered.the-variants.{Index, Not}
 use Rattle.answers.specs.Said.{Range, unsafeToBreak, unsafeToConcat, Said, applied, declined, refused}
+use Rattle.targets.specs.MarkPos.{baseCoverageOffset, baseIndex, markIndex}
+use Rattle.targets.specs.Search.{foundFor}
+use Rattle.targets.specs.Walk.{crossOffset}
+use Rattle.targets.specs.declared.mark_pos.Target.{Target}
 use Rattle.marks.specs.Anchors.{Anchors, both, missing, empty, anchorsFor}
-use Rattle.marks.specs.MarkPos.{baseCoverageOffset, baseIndex, markIndex}
-use Rattle.marks.specs.Search.{foundFor}
-use Rattle.marks.specs.Walk.{crossOffset}
-use Rattle.marks.specs.declared.mark_pos.Target.{Target}
 
 -- nothing, with the hazard to report, if any; refused, since the walk never ends; or the mark is to hang on slot b, by
 -- the base's anchor and its own, with b's walk

@@ -1,9 +1,4 @@
 // The anchors by which a mark attaches: its own, from the mark array, and the base's, from a row for its class.
-use crate::component::component_index;
-use crate::mark_pos::BASE_ARRAY_OFFSET;
-use crate::mark_pos::MARK_ARRAY_OFFSET;
-use crate::mark_pos::MARK_CLASS_COUNT;
-use crate::mark_pos::Target;
 use ints::big_endian::read_u16;
 use slots::shape::Shape;
 use tables::anchor::Anchor;
@@ -12,6 +7,11 @@ use tables::anchor_rows::Rows;
 use tables::mark_array::Mark;
 use tables::part::child_of;
 use tables::part::table_at;
+use targets::component::component_index;
+use targets::mark_pos::BASE_ARRAY_OFFSET;
+use targets::mark_pos::MARK_ARRAY_OFFSET;
+use targets::mark_pos::MARK_CLASS_COUNT;
+use targets::mark_pos::Target;
 ghost use mathlib.Core.Bool.{true};
 ghost use mathlib.Core.Path.{_≡_};
 ghost use Prim.Native.Nat.{_<_};
@@ -19,8 +19,8 @@ ghost use Rattle.ints.specs.Limits.{whole16};
 ghost use Rattle.slots.specs.code.Shape.{Inside};
 ghost use Rattle.slots.specs.Line.{slot, slots};
 ghost use Rattle.tables.specs.code.Meant.{AnchorNear, Near16, anchorPoint, pointOf, MarkNear, markAnchor};
+ghost use Rattle.targets.specs.MarkPos.{marksGood};
 ghost use Rattle.marks.specs.Anchors.{anchorsFor, rowFor, rowless, rowTable, afterBase, afterMark};
-ghost use Rattle.marks.specs.MarkPos.{marksGood};
 ghost use Rattle.marks.specs.code.Meant.{anchorsOf, AnchorsNear};
 
 // The fields of a LigatureArray.

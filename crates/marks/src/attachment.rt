@@ -1,5 +1,4 @@
 // Hanging a mark on a slot (`attach_mark`), and the core.
-use crate::mark_pos::Target;
 use crate::plan::Plan;
 use crate::plan::plan_of;
 use answers::Answer;
@@ -19,6 +18,7 @@ use slots::layout::MARK_TYPE;
 use slots::shape::Shape;
 use tables::anchor::Point;
 use tables::anchor::coordinate_on;
+use targets::mark_pos::Target;
 ghost use mathlib.Core.Bool.{true};
 ghost use mathlib.Core.List.{[], _∷_};
 ghost use mathlib.Core.Path.{_≡_};
@@ -30,8 +30,8 @@ ghost use Rattle.slots.specs.Line.{slots, update};
 ghost use Rattle.tables.specs.code.Meant.{Near16, pointOf};
 ghost use Rattle.answers.specs.code.Effect.{MadeOn};
 ghost use Rattle.answers.specs.Said.{applied, unsafeToBreak, said};
+ghost use Rattle.targets.specs.MarkPos.{marksGood};
 ghost use Rattle.marks.specs.Attachment.{markAttachment, anchorDelta, markAttached};
-ghost use Rattle.marks.specs.MarkPos.{marksGood};
 ghost use Rattle.marks.specs.code.Meant.{InReach};
 
 // 2^32: -n is stored as 2^32 - n.

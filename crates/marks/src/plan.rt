@@ -1,14 +1,6 @@
 // What is to be done for a mark.
 use crate::anchors::Anchors;
 use crate::anchors::find_anchors;
-use crate::mark_pos::BASE_COVERAGE_OFFSET;
-use crate::mark_pos::Target;
-use crate::mark_pos::base_index;
-use crate::mark_pos::mark_index;
-use crate::search::Found;
-use crate::search::find;
-use crate::walk::Walk;
-use crate::walk::cross_offset;
 use answers::Hazards;
 use answers::miss;
 use ints::big_endian::Signed;
@@ -17,15 +9,24 @@ use slots::axis::Axis;
 use slots::shape::Shape;
 use tables::anchor::Point;
 use tables::coverage::Covered;
+use targets::mark_pos::BASE_COVERAGE_OFFSET;
+use targets::mark_pos::Target;
+use targets::mark_pos::base_index;
+use targets::mark_pos::mark_index;
+use targets::search::Found;
+use targets::search::find;
+use targets::walk::Walk;
+use targets::walk::cross_offset;
 ghost use mathlib.Core.Bool.{true};
 ghost use mathlib.Core.Path.{_≡_};
 ghost use Prim.Native.Nat.{_<_};
 ghost use Rattle.slots.specs.code.Shape.{Inside};
 ghost use Rattle.slots.specs.Line.{slots};
 ghost use Rattle.tables.specs.code.Meant.{Near16, pointOf};
-ghost use Rattle.marks.specs.MarkPos.{marksGood};
+ghost use Rattle.targets.specs.MarkPos.{marksGood};
+ghost use Rattle.targets.specs.code.Meant.{Before, foundOf, walkOf};
 ghost use Rattle.marks.specs.Plan.{planOf, afterAnchors, afterFound, afterSearch, afterWalk};
-ghost use Rattle.marks.specs.code.Meant.{anchorsOf, Before, AnchorsNear, meant, foundOf, Sound, walkOf};
+ghost use Rattle.marks.specs.code.Meant.{anchorsOf, AnchorsNear, meant, Sound};
 
 // What is to be done for a mark.
 pub enum Plan {

@@ -16,9 +16,9 @@ use Rattle.pair.proofs.SaidLaws.{says as pair-says}
 use Rattle.cursive.specs.Attachment.{cursiveAttachment}
 use Rattle.cursive.specs.CursivePos.{cursiveGood}
 use Rattle.cursive.proofs.SaidLaws.{says as cursive-says}
+use Rattle.targets.specs.MarkPos.{marksGood}
+use Rattle.targets.specs.declared.mark_pos.Target.{Target}
 use Rattle.marks.specs.Attachment.{markAttachment}
-use Rattle.marks.specs.MarkPos.{marksGood}
-use Rattle.marks.specs.declared.mark_pos.Target.{Target}
 use Rattle.marks.proofs.SaidLaws.{says as mark-says}
 use Rattle.answers.specs.theorems.Hazards.{FewHazards}
 use Rattle.answers.specs.Outcome.{Call}

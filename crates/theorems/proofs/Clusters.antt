@@ -24,9 +24,9 @@ use Rattle.pair.specs.Plan.{planOf as pairPlan}
 use Rattle.theorems.proofs.PairClusters as pair
 use Rattle.cursive.specs.CursivePos.{cursiveGood, planOf as cursivePlan, planSaid as cursiveSaid}
 use Rattle.theorems.proofs.CursiveClusters as cursive
-use Rattle.marks.specs.MarkPos.{marksGood}
+use Rattle.targets.specs.MarkPos.{marksGood}
+use Rattle.targets.specs.declared.mark_pos.Target.{Target}
 use Rattle.marks.specs.Plan.{planOf as markPlan, planSaid as markSaid}
-use Rattle.marks.specs.declared.mark_pos.Target.{Target}
 use Rattle.theorems.proofs.MarkClusters as marks
 use Rattle.theorems.proofs.FinishClusters as finish
 use Rattle.finish_rules.proofs.SettledLaws.{finished-count}

@@ -1,7 +1,7 @@
 -- A call that is applied reports at most two hazards, one that declines at most one, one that refuses none. Assumes nothing.
 use mathlib.Core.List.{List}
 use Prim.Native.Nat.{ℕ}
-use Rattle.marks.specs.declared.mark_pos.Target.{Target}
+use Rattle.targets.specs.declared.mark_pos.Target.{Target}
 use Rattle.answers.specs.theorems.Hazards.{FewHazards}
 use Rattle.answers.specs.Said.{said}
 use Rattle.answers.specs.declared.Answer.{Answer}

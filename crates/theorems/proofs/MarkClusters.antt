@@ -30,15 +30,15 @@ use Rattle.tables.specs.declared.anchor_rows.Rows.{Rows}
 use Rattle.tables.specs.declared.anchor_rows.Rows.the-variants.{Of, Absent}
 use Rattle.tables.specs.declared.coverage.Covered.{Covered}
 use Rattle.tables.specs.declared.coverage.Covered.the-variants.{Index, Not}
+use Rattle.targets.specs.MarkPos.{baseCoverageOffset, baseIndex, markClassCount, markIndex}
+use Rattle.targets.specs.Search.{foundFor, goesOn, isCovered, isFirst, stopsAt}
+use Rattle.targets.specs.Walk.{climb, crossOffset, crossOffsetIn}
+use Rattle.targets.specs.declared.mark_pos.Target.{Target}
+use Rattle.targets.specs.declared.mark_pos.Target.the-variants.{Base, Ligature}
 use Rattle.marks.specs.Anchors.{Anchors, both, missing, empty, anchorsFor, rowTable, afterRows}
-use Rattle.marks.specs.MarkPos.{baseCoverageOffset, baseIndex, markClassCount, markIndex}
-use Rattle.marks.specs.Search.{foundFor, goesOn, isCovered, isFirst, stopsAt}
 use Rattle.ints.specs.Tally.{nearest}
-use Rattle.marks.specs.Walk.{climb, crossOffset, crossOffsetIn}
 use Rattle.marks.specs.Plan.{Plan, stop, endless, hang, fits, planOf, afterAnchors, afterCovered, afterFound, afterSearch, afterWalk}
 use Rattle.marks.specs.Attachment.{anchorDelta, markAttached, planned}
-use Rattle.marks.specs.declared.mark_pos.Target.{Target}
-use Rattle.marks.specs.declared.mark_pos.Target.the-variants.{Base, Ligature}
 
 -- ---- the search
 -- whether it stops at slot i

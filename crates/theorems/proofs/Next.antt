@@ -3,7 +3,7 @@ use mathlib.Core.List.{List}
 use Prim.Native.Nat.{ℕ}
 use lib.ListN.{length}
 use Rattle.slots.specs.Line.{lineSlots}
-use Rattle.marks.specs.declared.mark_pos.Target.{Target}
+use Rattle.targets.specs.declared.mark_pos.Target.{Target}
 use Rattle.answers.specs.Said.{said}
 use Rattle.answers.specs.declared.Answer.{Answer}
 use Rattle.answers.specs.declared.Neighbour.{Neighbour}

@@ -31,13 +31,13 @@ use Rattle.cursive.specs.Attachment.{joinedAt, separatedBy, tied}
 use Rattle.cursive.specs.Chains.{attachedCount}
 use Rattle.cursive.specs.CursivePos.{planOf as cursivePlan}
 use Rattle.cursive.specs.Reversal.{reversed, reversedIn, turned}
-use Rattle.marks.specs.Component.{componentIndex}
+use Rattle.targets.specs.Component.{componentIndex}
+use Rattle.targets.specs.MarkPos.{baseIndex, markIndex, marksGood}
+use Rattle.targets.specs.Search.{stopsAt}
+use Rattle.targets.specs.Walk.{crossOffset, crossOffsetIn}
+use Rattle.targets.specs.declared.mark_pos.Target.the-variants.{Ligature}
 use Rattle.marks.specs.Anchors.{anchorsFor}
-use Rattle.marks.specs.MarkPos.{baseIndex, markIndex, marksGood}
 use Rattle.marks.specs.Plan.{planOf as markPlan}
-use Rattle.marks.specs.Search.{stopsAt}
-use Rattle.marks.specs.Walk.{crossOffset, crossOffsetIn}
-use Rattle.marks.specs.declared.mark_pos.Target.the-variants.{Ligature}
 use Rattle.finish_rules.specs.Finish.{finished, takenIn, settled, settledUp, shifted}
 use Rattle.answers.specs.Said.{applied, unsafeToBreak, unsafeToConcat, Said}
 use Rattle.answers.specs.declared.Neighbour.the-variants.{Named}

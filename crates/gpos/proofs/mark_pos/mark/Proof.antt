@@ -1,7 +1,7 @@
 -- The call's parts; all else is the applying calls' laws. Assumes nothing.
 use mathlib.Core.Path.{sym, _∙_}
+use Rattle.targets.specs.MarkPos.{marksGood}
 use Rattle.marks.specs.Attachment.{markAttachment}
-use Rattle.marks.specs.MarkPos.{marksGood}
 use Rattle.slots.specs.declared.shape.Shape.{Shape}
 use Rattle.answers.specs.Said.{said}
 use Rattle.gpos.specs.declared.neighbours.Beside.the-variants.{Nothing}

@@ -6,7 +6,8 @@ use Rattle.ints.specs.BigEndian.{AllBytes}
 use Rattle.slots.specs.Line.{slot, slots}
 use Rattle.tables.specs.code.Meant.{markAnchor}
 use Rattle.tables.proofs.AnchorRowsLaws.{rows-few}
-use Rattle.marks.proofs.MarkPosLaws.{anchors-cut, anchors-rowless, anchors-with, good, rows-bytes}
+use Rattle.targets.proofs.MarkPosLaws.{good}
+use Rattle.marks.proofs.AnchorsLaws.{anchors-cut, anchors-rowless, anchors-with, rows-bytes}
 use borrow.Author.Needs.{needs}
 use Rattle.marks.proofs.anchors.find_anchors.Statement.{statement}
 use Rattle.marks.proofs.anchors.find_anchors.Tie as tie

@@ -2,8 +2,8 @@
 use mathlib.Core.Path.{sym, ap, _∙_}
 use denote.Ref.{now}
 use Rattle.slots.specs.Line.{slot, slots}
+use Rattle.targets.specs.declared.mark_pos.Target.{Target}
 use Rattle.marks.specs.Anchors.{rowFor}
-use Rattle.marks.specs.declared.mark_pos.Target.{Target}
 use borrow.Author.Needs.{needs}
 use Rattle.marks.proofs.anchors.row_for.Statement.{statement}
 use Rattle.marks.proofs.anchors.row_for.Tie as tie

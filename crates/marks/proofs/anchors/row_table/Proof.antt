@@ -1,7 +1,8 @@
 -- `marks::anchors::row_table` meets its contract: the array at its offset, and for a ligature the table that offset k of it leads to. Assumes nothing.
 use native.Mathlib.Omega.{arith}
 use denote.Ref.{now}
-use Rattle.marks.proofs.MarkPosLaws.{good, rows-base, rows-cut, rows-ligature}
+use Rattle.targets.proofs.MarkPosLaws.{good}
+use Rattle.marks.proofs.AnchorsLaws.{rows-base, rows-cut, rows-ligature}
 use borrow.Author.Needs.{needs}
 use Rattle.marks.proofs.anchors.row_table.Statement.{statement}
 use Rattle.marks.proofs.anchors.row_table.Tie as tie

@@ -3,10 +3,10 @@ use mathlib.Core.Path.{sym, ap, subst, _∙_}
 use native.Mathlib.Omega.{arith}
 use denote.Ref.{now}
 use Rattle.slots.specs.Line.{slots}
-use Rattle.marks.specs.code.Meant.{Before, foundOf}
-use Rattle.marks.specs.MarkPos.{baseIndex}
+use Rattle.targets.specs.code.Meant.{Before, foundOf}
+use Rattle.targets.specs.MarkPos.{baseIndex}
+use Rattle.targets.specs.declared.search.Found.{Found}
 use Rattle.marks.specs.Plan.{stop, afterFound, afterSearch}
-use Rattle.marks.specs.declared.search.Found.{Found}
 use borrow.Author.Needs.{needs}
 use Rattle.marks.proofs.plan.after_search.Statement.{statement}
 use Rattle.marks.proofs.plan.after_search.Tie as tie

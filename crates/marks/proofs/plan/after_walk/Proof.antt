@@ -1,9 +1,9 @@
 -- `marks::plan::after_walk` meets its contract: the walk ends or not. Assumes nothing.
 use mathlib.Core.Path.{sym, ap}
 use Rattle.tables.specs.code.Meant.{pointOf}
-use Rattle.marks.specs.code.Meant.{walkOf}
+use Rattle.targets.specs.code.Meant.{walkOf}
+use Rattle.targets.specs.declared.walk.Walk.{Walk}
 use Rattle.marks.specs.Plan.{afterWalk}
-use Rattle.marks.specs.declared.walk.Walk.{Walk}
 use borrow.Author.Needs.{needs}
 use Rattle.marks.proofs.plan.after_walk.Statement.{statement}
 use Rattle.marks.proofs.plan.after_walk.Tie as tie

@@ -3,8 +3,8 @@ use mathlib.Core.Path.{_∙_}
 use native.Mathlib.Omega.{arith}
 use denote.Ref.{now}
 use Rattle.slots.specs.Line.{slots}
-use Rattle.marks.specs.code.Meant.{foundOf}
-use Rattle.marks.proofs.MarkPosLaws.{good}
+use Rattle.targets.specs.code.Meant.{foundOf}
+use Rattle.targets.proofs.MarkPosLaws.{good}
 use Rattle.marks.proofs.PlanLaws.{plan-no-bases, plan-search, plan-uncovered}
 use borrow.Author.Needs.{needs}
 use Rattle.marks.proofs.plan.plan_of.Statement.{statement}

@@ -1,0 +1,4 @@
+pub mod MarkPosLaws
+pub mod SearchLaws
+pub mod WalkLaws
+pub mod Examples

@@ -1,0 +1,6 @@
+pub mod MarkPos  -- the subtables' header and coverages
+pub mod Component  -- which component a mark attaches to
+pub mod Search  -- what a mark attaches to
+pub mod Walk  -- the base's walk across the line
+pub mod code  -- code's values and its bounds
+pub mod theorems  -- what theorems say, and no contract does
