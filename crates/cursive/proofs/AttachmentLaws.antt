@@ -24,9 +24,9 @@ use Rattle.slots.proofs.LineLaws.{update-as, update-both}
 use Rattle.slots.specs.Axis.{cross, main}
 use Rattle.slots.specs.declared.axis.Direction.{Direction}
 use Rattle.tables.specs.Anchor.{Point}
+use Rattle.chains.specs.Chains.{chainTo}
+use Rattle.chains.specs.Reversal.{reversed}
 use Rattle.cursive.specs.Attachment.{crossed, ended, joinedAt, previousJoined, pulled, rightToLeft, scaledAt, separatedBy, thisJoined, tied}
-use Rattle.cursive.specs.Chains.{chainTo}
-use Rattle.cursive.specs.Reversal.{reversed}
 
 -- ---- along the line
 module _ (a : Axis) (i : ℕ) (ss : List Slot) (z : ℤ) {o : ℤ} (offset-is : o ≡ offset a (slot ss i)) where

@@ -21,9 +21,9 @@ use Rattle.slots.specs.declared.fields.Measure.the-variants.{Advance, Offset}
 use Rattle.tables.specs.Anchor.{Point, coordinate}
 use Rattle.answers.specs.Outcome.{Call}
 use Rattle.answers.specs.declared.Neighbour.{Neighbour}
-use Rattle.cursive.specs.Chains.{chainTo}
+use Rattle.chains.specs.Chains.{chainTo}
+use Rattle.chains.specs.Reversal.{reversed}
 use Rattle.cursive.specs.CursivePos.{Plan, stop, join, planOf, planSaid}
-use Rattle.cursive.specs.Reversal.{reversed}
 
 -- a coordinate of an anchor, scaled by itself
 abbrev pub scaledAt : ℕ → ℕ → Axis → Point → ℤ

@@ -1,13 +1,13 @@
 // Joining two glyphs, along the line and across it.
-use crate::chains::attach_slot;
-use crate::chains::chain_to;
 use crate::cursive_pos::Plan;
 use crate::cursive_pos::plan_of;
-use crate::reversal::reverse;
 use answers::Answer;
 use answers::Hazards;
 use answers::Neighbour;
 use answers::unsafe_to_break;
+use chains::chains::attach_slot;
+use chains::chains::chain_to;
+use chains::reversal::reverse;
 use ints::big_endian::Signed;
 use ints::saturating::sat_add;
 use ints::saturating::sat_neg;

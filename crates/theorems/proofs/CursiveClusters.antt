@@ -29,12 +29,12 @@ use Rattle.answers.specs.declared.Neighbour.{Neighbour}
 use Rattle.answers.specs.declared.Neighbour.the-variants.{Named, Missing}
 use Rattle.ints.specs.Tally.{tally}
 use Rattle.ints.proofs.TallyLaws.{tally-same}
-use Rattle.cursive.specs.Chains.{attachedCount, chainTo, reach}
+use Rattle.chains.specs.Chains.{attachedCount, chainTo, reach}
+use Rattle.chains.specs.Reversal.{reversed, reversedIn, turned}
+use Rattle.chains.proofs.ReversalLaws.{length-reversed}
 use Rattle.cursive.specs.CursivePos.{Plan, stop, join, entryOf, afterCovered, afterEntry, afterNeighbour, afterPrevious, indexOf, planOf}
-use Rattle.cursive.specs.Reversal.{reversed, reversedIn, turned}
 use Rattle.cursive.specs.Attachment.{crossed, ended, childAttached, joinedAt, planned, previousJoined, pulled, rightToLeft, scaledAt, separatedBy, thisJoined, tied}
 use Rattle.ints.specs.Signed.{sameAs}
-use Rattle.cursive.proofs.ReversalLaws.{length-reversed}
 
 -- ---- the plan
 module _ (t : List ℕ) (i : ℕ) where

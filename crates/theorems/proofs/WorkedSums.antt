@@ -27,10 +27,10 @@ use Rattle.ints.proofs.Examples.{words}
 use Rattle.pair.specs.PairPos.{classesGood, pairGood}
 use Rattle.pair.specs.PairSet.{probeIn}
 use Rattle.pair.specs.Plan.{planOf as pairPlan}
+use Rattle.chains.specs.Chains.{attachedCount}
+use Rattle.chains.specs.Reversal.{reversed, reversedIn, turned}
 use Rattle.cursive.specs.Attachment.{joinedAt, separatedBy, tied}
-use Rattle.cursive.specs.Chains.{attachedCount}
 use Rattle.cursive.specs.CursivePos.{planOf as cursivePlan}
-use Rattle.cursive.specs.Reversal.{reversed, reversedIn, turned}
 use Rattle.targets.specs.Component.{componentIndex}
 use Rattle.targets.specs.MarkPos.{baseIndex, markIndex, marksGood}
 use Rattle.targets.specs.Search.{stopsAt}

@@ -1,13 +1,13 @@
--- `cursive::chains::attach_slot` meets its contract: three changes of one slot are one. Assumes nothing.
+-- `chains::chains::attach_slot` meets its contract: three changes of one slot are one. Assumes nothing.
 use native.Mathlib.Omega.{arith}
 use denote.Ref.{now}
 use Rattle.ints.specs.code.Signed.{val}
 use Rattle.slots.specs.Line.{slots}
 use Rattle.slots.proofs.LineLaws.{length-slots}
-use Rattle.cursive.proofs.ChainsLaws.{attached-by}
+use Rattle.chains.proofs.ChainsLaws.{attached-by}
 use borrow.Author.Needs.{needs}
-use Rattle.cursive.proofs.chains.attach_slot.Statement.{statement}
-use Rattle.cursive.proofs.chains.attach_slot.Tie as tie
+use Rattle.chains.proofs.chains.attach_slot.Statement.{statement}
+use Rattle.chains.proofs.chains.attach_slot.Tie as tie
 
 set-requires : tie.Need-set-requires
 set-requires c κs = search needs

@@ -23,7 +23,7 @@ use Rattle.slots.specs.declared.fields.ByteField.the-variants.{AttachType}
 use Rattle.slots.specs.declared.fields.Measure.the-variants.{Offset}
 use Rattle.slots.proofs.ChainLaws.{back-bits, near-fits}
 use Rattle.slots.proofs.LineLaws.{update-both}
-use Rattle.cursive.specs.Chains.{chainTo, reach}
+use Rattle.chains.specs.Chains.{chainTo, reach}
 
 -- a distance that fits 16 bits is its own chain; any other leaves the slot unattached
 pub reach-near : (z : ℤ) → mag z < 32768 → reach z ≡ z

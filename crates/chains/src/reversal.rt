@@ -10,7 +10,7 @@ use slots::shape::Shape;
 ghost use mathlib.Core.Path.{_≡_};
 ghost use Rattle.slots.specs.code.Shape.{Inside};
 ghost use Rattle.slots.specs.Line.{shapeWith, slots};
-ghost use Rattle.cursive.specs.Reversal.{reversed};
+ghost use Rattle.chains.specs.Reversal.{reversed};
 
 // The chain from slot i is reversed, so that it ends at the new parent p: each chain is cleared on the way in, and each
 // parent hung onto its child on the way out. A call that goes on has cleared a chain: the number of attached slots

@@ -16,7 +16,7 @@ ghost use Rattle.slots.specs.Line.{slots, update};
 ghost use Rattle.slots.specs.Fields.{attached, withMeasure};
 ghost use Rattle.slots.specs.declared.fields.Measure.the-variants.{Offset};
 ghost use Rattle.slots.specs.Parent.{chainLimit};
-ghost use Rattle.cursive.specs.Chains.{chainTo, reach};
+ghost use Rattle.chains.specs.Chains.{chainTo, reach};
 
 // -32,768, as a number of 32 bits.
 const LEAST_CHAIN: Signed = 4294934528;

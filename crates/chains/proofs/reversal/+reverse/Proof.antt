@@ -1,4 +1,4 @@
--- `cursive::reversal::reverse` meets its contract: each way through it is one equation of `reversed`, and a call that goes on has cleared an attached slot, so
+-- `chains::reversal::reverse` meets its contract: each way through it is one equation of `reversed`, and a call that goes on has cleared an attached slot, so
 -- that the number of attached slots falls. Assumes nothing.
 use mathlib.Core.List.{List}
 use mathlib.Core.Path.{_≡_, sym, _∙_}
@@ -16,16 +16,16 @@ use Rattle.slots.specs.Parent.{parent}
 use Rattle.slots.specs.declared.parent.Parent.the-variants.{InLine}
 use Rattle.slots.proofs.LineLaws.{length-slots}
 use Rattle.slots.proofs.ParentLaws.{parent-in-line}
-use Rattle.cursive.specs.Chains.{attachedCount}
+use Rattle.chains.specs.Chains.{attachedCount}
 use Rattle.slots.proofs.ChainLaws.{zero-fits}
-use Rattle.cursive.proofs.ReversalLaws.{ends-new, ends-outside, falls-at, goes-on, reversed-free, stays-plain}
+use Rattle.chains.proofs.ReversalLaws.{ends-new, ends-outside, falls-at, goes-on, reversed-free, stays-plain}
 use borrow.Fn.Kinds.{In}
 use borrow.Fn.PlainCycle.{Measures, is, falls, and}
-use Rattle.cursive.proofs.reversal.reverse.Reads as reverse
-use Rattle.cursive.proofs.reversal.reverse.Kinds as reverse-kinds
-use Rattle.cursive.proofs.reversal.+reverse.Lts-reverse as reverse-lts
-use Rattle.cursive.proofs.chains.chain_back.Reads as chain-back-reads
-use Rattle.cursive.proofs.chains.attach_slot.Reads as hang-reads
+use Rattle.chains.proofs.reversal.reverse.Reads as reverse
+use Rattle.chains.proofs.reversal.reverse.Kinds as reverse-kinds
+use Rattle.chains.proofs.reversal.+reverse.Lts-reverse as reverse-lts
+use Rattle.chains.proofs.chains.chain_back.Reads as chain-back-reads
+use Rattle.chains.proofs.chains.attach_slot.Reads as hang-reads
 use Rattle.ints.proofs.saturating.sat_neg.Reads as sat-neg-reads
 use Rattle.slots.proofs.fields.chain.Reads as chain-reads
 use Rattle.slots.proofs.fields.cursive_bit.Reads as cursive-bit-reads
@@ -33,8 +33,8 @@ use Rattle.slots.proofs.fields.get.Reads as get-reads
 use Rattle.slots.proofs.fields.get_byte.Reads as get-byte-reads
 use Rattle.slots.proofs.fields.set_chain.Reads as set-chain-reads
 use Rattle.slots.proofs.parent.parent_of.Reads as parent-of-reads
-use Rattle.cursive.proofs.reversal.+reverse.{statement}
-use Rattle.cursive.proofs.reversal.+reverse.Tie.{close}
+use Rattle.chains.proofs.reversal.+reverse.{statement}
+use Rattle.chains.proofs.reversal.+reverse.Tie.{close}
 
 -- the measure: how many slots are attached
 abbrev μ-reverse : Measures 1 reverse-kinds.ps ℕ

@@ -11,7 +11,7 @@ use Rattle.slots.specs.Fields.{attached, cursiveBit, offset, withMeasure}
 use Rattle.slots.specs.Parent.{byParent, cleared, parent}
 use Rattle.slots.specs.declared.axis.Axis.{Axis}
 use Rattle.slots.specs.declared.fields.Measure.the-variants.{Offset}
-use Rattle.cursive.specs.Chains.{attachedCount, reach}
+use Rattle.chains.specs.Chains.{attachedCount, reach}
 
 -- the parent j hung onto its child i: by the whole type byte and the negated chain that the child had (`was`), with the
 -- child's offset, as it is by now, negated

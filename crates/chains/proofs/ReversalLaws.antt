@@ -23,8 +23,8 @@ use Rattle.slots.specs.declared.parent.Parent.the-variants.{None, Outside, InLi
 use Rattle.slots.proofs.LineLaws.{length-update}
 use Rattle.slots.proofs.ParentLaws.{cleared-count, cleared-is, cleared-other, cleared-own, parent-none}
 use Rattle.ints.proofs.TallyLaws.{tally-drop}
-use Rattle.cursive.specs.Chains.{attachedCount, reach}
-use Rattle.cursive.specs.Reversal.{reversed, reversedIn, turned}
+use Rattle.chains.specs.Chains.{attachedCount, reach}
+use Rattle.chains.specs.Reversal.{reversed, reversedIn, turned}
 
 -- ---- a parent hung onto its child
 pub length-turned : (a : Axis) (was : Slot) (ss : List Slot) (i j : ℕ) → length (turned a was ss i j) ≡ length ss

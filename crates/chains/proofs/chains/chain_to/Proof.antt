@@ -1,10 +1,10 @@
--- `cursive::chains::chain_to` meets its contract: a distance that fits 16 bits is the chain, forward or back, and any other gives 0. Assumes nothing.
+-- `chains::chains::chain_to` meets its contract: a distance that fits 16 bits is the chain, forward or back, and any other gives 0. Assumes nothing.
 use mathlib.Core.Logic.{inl, inr}
 use native.Mathlib.Omega.{arith}
-use Rattle.cursive.proofs.ChainsLaws.{chain-before, chain-far, chain-on}
+use Rattle.chains.proofs.ChainsLaws.{chain-before, chain-far, chain-on}
 use borrow.Author.Needs.{needs}
-use Rattle.cursive.proofs.chains.chain_to.Statement.{statement}
-use Rattle.cursive.proofs.chains.chain_to.Tie as tie
+use Rattle.chains.proofs.chains.chain_to.Statement.{statement}
+use Rattle.chains.proofs.chains.chain_to.Tie as tie
 
 cast-result : tie.Need-cast-result
 cast-result c = search needs

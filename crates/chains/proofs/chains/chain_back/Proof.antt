@@ -1,9 +1,9 @@
--- `cursive::chains::chain_back` meets its contract: of 16 bits only the least number has no negation, and no other saturates. Assumes nothing.
+-- `chains::chains::chain_back` meets its contract: of 16 bits only the least number has no negation, and no other saturates. Assumes nothing.
 use native.Mathlib.Omega.{arith}
-use Rattle.cursive.proofs.ChainsLaws.{back-least, back-other}
+use Rattle.chains.proofs.ChainsLaws.{back-least, back-other}
 use borrow.Author.Needs.{needs}
-use Rattle.cursive.proofs.chains.chain_back.Statement.{statement}
-use Rattle.cursive.proofs.chains.chain_back.Tie as tie
+use Rattle.chains.proofs.chains.chain_back.Statement.{statement}
+use Rattle.chains.proofs.chains.chain_back.Tie as tie
 
 returns : tie.Need-returns
 returns c = rw (c .if1 .taken) back-least

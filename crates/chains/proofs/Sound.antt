@@ -20,10 +20,10 @@ use Rattle.slots.proofs.ChainLaws.{near-fits}
 use Rattle.slots.proofs.FieldLaws.{measure-chain}
 use Rattle.slots.proofs.LineLaws.{update-other, update-same}
 use Rattle.slots.proofs.ParentLaws.{chain-is, chain-zero, cleared-count, cleared-other, cleared-own, parent-in-line, parent-is, parent-same}
-use Rattle.cursive.specs.Chains.{reach}
-use Rattle.cursive.specs.Reversal.{reversed, turned}
-use Rattle.cursive.proofs.ChainsLaws.{reach-near}
-use Rattle.cursive.proofs.ReversalLaws.{length-turned, reversed-free, reversed-on}
+use Rattle.chains.specs.Chains.{reach}
+use Rattle.chains.specs.Reversal.{reversed, turned}
+use Rattle.chains.proofs.ChainsLaws.{reach-near}
+use Rattle.chains.proofs.ReversalLaws.{length-turned, reversed-free, reversed-on}
 
 -- ---- what is asked
 -- slot i hangs on slot j by a type that reversal follows

@@ -1,0 +1,4 @@
+pub mod ChainsLaws
+pub mod ReversalLaws
+pub mod Sound
+pub mod Examples

@@ -1,0 +1,2 @@
+pub mod Chains  -- chains for a distance, attached slots
+pub mod Reversal  -- the reversal of an old chain
