@@ -13,7 +13,7 @@ pub fn start(line: &mut [u8], size: usize) -> Done
     match checked {
         Checked::Refused(r) => return Done::Refused(r),
         Checked::Slots(shape) => {
-            slots::start::start_line(line, shape);
+            start::start_line(line, shape);
             return Done::Done;
         }
     }

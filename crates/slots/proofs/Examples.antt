@@ -1,4 +1,4 @@
--- Values worked by hand from the rules: a slot's bytes, the ranges of its fields, the line's length, parents, starting. They compute. Assumes nothing.
+-- Values worked by hand from the rules: a slot's bytes, the ranges of its fields, the line's length, parents. They compute. Assumes nothing.
 use mathlib.Core.Bool.{Bool, true, false}
 use mathlib.Core.List.{List, [], _∷_, _++_, map}
 use mathlib.Core.Path.{_≡_, refl}
@@ -11,10 +11,8 @@ use Rattle.slots.specs.Checks.{badLine, badSlot, some, badLength, badSlo
 use Rattle.slots.specs.theorems.Clusters.{clusters, plainLine, plainN}
 use Rattle.slots.specs.Numbered.{isNumberedFrom, numberedFrom}
 use Rattle.slots.specs.Fields.{attached, flagIn, withByte, withCluster}
-use Rattle.slots.specs.Line.{bytes, lineSlots, slots, slotsN}
 use Rattle.slots.specs.Parent.{parent}
 use Rattle.slots.specs.Slot.{bytesOf, noSlot, plainBytes, Slot, slotOf}
-use Rattle.slots.specs.Start.{started}
 use Rattle.slots.specs.declared.fields.ByteField.{ByteField}
 use Rattle.slots.specs.declared.fields.ByteField.the-variants.{LigatureId, Component, Flags, AttachType}
 use Rattle.slots.specs.declared.fields.Flag.the-variants.{Seen, Mark, Multiplied}
@@ -22,7 +20,7 @@ use Rattle.slots.specs.declared.parent.Parent.{Parent}
 use Rattle.slots.specs.declared.parent.Parent.the-variants.{None, Outside, InLine}
 
 -- 24 bytes with every field at an end of its range, or beside it
-abbrev full : List ℕ
+abbrev pub full : List ℕ
 full =
     1 ∷ 2 ∷ 7 ∷ 15 ∷ 7 ∷ 255 ∷ 128 ∷ 0
     ∷ 127 ∷ 255 ∷ 255 ∷ 255 ∷ 128 ∷ 0 ∷ 0 ∷ 0
@@ -30,7 +28,7 @@ full =
     ∷ []
 
 -- the same as a slot, with this type and chain
-abbrev fullSlot : ℕ → ℤ → Slot
+abbrev pub fullSlot : ℕ → ℤ → Slot
 fullSlot t c =
     record {
       glyph = 258;
@@ -47,7 +45,7 @@ fullSlot t c =
     }
 
 -- with the cluster 0x00010203 after them, as a slot too
-abbrev clustered : List ℕ
+abbrev pub clustered : List ℕ
 clustered = full ++ (0 ∷ 1 ∷ 2 ∷ 3 ∷ [])
 
 abbrev clusteredSlot : Slot
@@ -92,12 +90,9 @@ pub record Worked : Type 0 where
   -- moving gives each slot its number; the old bytes of a line with clusters are its first 24 of each 28
   pub numbers : (clusters (numberedFrom 0 (clusteredSlot ∷ noSlot ∷ noSlot ∷ [])) ≡ (0 ∷ 1 ∷ 2 ∷ [])) × (plainLine (clustered ++ clustered) ≡ full ++ full)
   pub numbered : map (isNumberedFrom 0) ((noSlot ∷ withCluster 1 noSlot ∷ []) ∷ (noSlot ∷ noSlot ∷ []) ∷ (clusteredSlot ∷ []) ∷ [] ∷ []) ≡ (true ∷ false ∷ false ∷ true ∷ [])
-  -- starting clears chain and type, and nothing else; an empty line stays empty
-  pub starts : (started (lineSlots 24 full) ≡ fullSlot 0 (pos 0) ∷ []) × (started (lineSlots 24 []) ≡ [])
-      × (started (lineSlots 28 clustered) ≡ withCluster 66051 (fullSlot 0 (pos 0)) ∷ [])
 
 pub worked : Worked
-unfolding digits natAt pattern signed intAt slotOf plainBytes slotsN slots bytes some parent numberedFrom isNumberedFrom plainN
+unfolding digits natAt pattern signed intAt slotOf plainBytes some parent numberedFrom isNumberedFrom plainN
 worked = record {
   fields = (refl, refl);
   clusters-are = (refl, refl, refl);
@@ -111,5 +106,4 @@ worked = record {
   parents = refl;
   numbers = (refl, refl);
   numbered = refl;
-  starts = (refl, refl, refl);
 }

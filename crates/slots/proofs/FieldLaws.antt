@@ -6,13 +6,12 @@ use native.Mathlib.Omega.{arith}
 use lib.IntN.{ℤ, pos}
 use lib.ListN.{length, getD, set}
 use Rattle.ints.specs.BigEndian.{digits, natAt, withNat}
-use Rattle.ints.specs.Signed.{InBytes, intAt, signed, withInt}
+use Rattle.ints.specs.Signed.{InBytes, intAt, withInt}
 use Rattle.ints.proofs.BigEndianLaws.{natAt-digits}
 use Rattle.ints.proofs.SignedLaws.{intAt-digits}
 use Rattle.slots.specs.Slot.{Slot, slotOf, slotSize}
 use Rattle.slots.specs.code.Fields.{byteAt, measureAt}
 use Rattle.slots.specs.Fields.{byteOf, measure, withByte, withChain, withGlyph, withMeasure}
-use Rattle.slots.specs.Start.{unattached}
 use Rattle.slots.specs.declared.axis.Axis.{Axis}
 use Rattle.slots.specs.declared.axis.Axis.the-variants.{X, Y}
 use Rattle.slots.specs.declared.fields.ByteField.{ByteField}
@@ -70,8 +69,3 @@ measure-chain Advance X c s = refl
 measure-chain Advance Y c s = refl
 measure-chain Offset X c s = refl
 measure-chain Offset Y c s = refl
-
--- ---- type and chain set to 0
-pub clear-put : (p : List ℕ) → slotSize ≤ length p → slotOf (set (set (set p 5 0) 6 0) 7 0) ≡ unattached (slotOf p)
-unfolding slotOf natAt intAt signed
-clear-put = by-cells (λ (p : List ℕ). slotOf (set (set (set p 5 0) 6 0) 7 0) ≡ unattached (slotOf p)) (λ g r. refl)

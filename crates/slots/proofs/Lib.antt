@@ -7,5 +7,4 @@ pub mod ParentLaws
 pub mod RangeLaws
 pub mod ChainLaws
 pub mod SearchLaws
-pub mod TurnLaws
 pub mod Examples

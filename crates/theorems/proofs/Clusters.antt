@@ -11,10 +11,10 @@ use Rattle.slots.specs.Checks.{badLine}
 use Rattle.slots.specs.theorems.Clusters.{Blind, clusters, plainLine, plainN}
 use Rattle.slots.specs.Line.{bytes, count, lineSlots, slots, slotsN}
 use Rattle.slots.specs.Slot.{clusteredSize, known, Slot, slotSize}
-use Rattle.slots.specs.Start.{unattached}
 use Rattle.slots.specs.declared.axis.Direction.{Direction}
 use Rattle.theorems.proofs.ClusterLaws.{clusters-kept, length-blind, range-blind, started-keeps}
 use Rattle.slots.proofs.LineLaws.{count-bytes, known-size, slots-storable}
+use Rattle.start.specs.Start.{unattached}
 use Rattle.theorems.proofs.PlainLaws.{bytes-without, clusters-read, plain-bytes, plain-good, plain-slots, zeros}
 use Rattle.single.specs.SinglePos.{singleGood, singleSaid}
 use Rattle.theorems.proofs.SingleClusters as single

@@ -1,12 +1,12 @@
 -- A size that is not 24 is 28. Assumes nothing.
 use mathlib.Core.Path.{sym}
 use Rattle.slots.proofs.SlotLaws.{other-size}
 use borrow.Author.Needs.{needs}
-use Rattle.slots.proofs.start.start_line.Statement.{statement}
-use Rattle.slots.proofs.start.start_line.Tie as tie
-use Rattle.slots.proofs.start.start_line.Reads as reads
-use Rattle.slots.proofs.start.start_line.Lts as lts
-use Rattle.slots.proofs.start.clear_all.Reads as clear-all-reads
+use Rattle.start.proofs.start_line.Statement.{statement}
+use Rattle.start.proofs.start_line.Tie as tie
+use Rattle.start.proofs.start_line.Reads as reads
+use Rattle.start.proofs.start_line.Lts as lts
+use Rattle.start.proofs.clear_all.Reads as clear-all-reads
 
 clear-all-requires : tie.Need-clear-all-requires
 clear-all-requires c κs = rw (sym (c .before .if1 .taken)) (c .before .before .before .pre .0)

@@ -1,10 +1,10 @@
 -- Bytes 5, 6 and 7 are type and chain. Assumes nothing.
 use native.Mathlib.Omega.{arith}
 use lib.ListN.{length-set}
-use Rattle.slots.proofs.FieldLaws.{clear-put}
+use Rattle.start.proofs.ClearLaws.{clear-put}
 use borrow.Author.Needs.{needs}
-use Rattle.slots.proofs.start.clear.Statement.{statement}
-use Rattle.slots.proofs.start.clear.Tie as tie
+use Rattle.start.proofs.clear.Statement.{statement}
+use Rattle.start.proofs.clear.Tie as tie
 
 slice-write-slot : tie.Need-slice-write-slot
 slice-write-slot c = search needs

@@ -1,18 +1,18 @@
 // Starting a line (`position_start`): every chain and type becomes 0, and nothing else changes.
-use crate::layout::ATTACH_TYPE;
-use crate::layout::CHAIN;
-use crate::layout::CHAIN_LOW;
-use crate::layout::CLUSTERED_SIZE;
-use crate::layout::SLOT_SIZE;
-use crate::shape::Shape;
+use slots::layout::ATTACH_TYPE;
+use slots::layout::CHAIN;
+use slots::layout::CHAIN_LOW;
+use slots::layout::CLUSTERED_SIZE;
+use slots::layout::SLOT_SIZE;
+use slots::shape::Shape;
 ghost use mathlib.Core.Bool.{true};
 ghost use mathlib.Core.Path.{_≡_};
 ghost use Prim.Native.Nat.{_≤_};
 ghost use lib.ListN.{length};
 ghost use Rattle.slots.specs.Slot.{known, slotOf, slotSize};
 ghost use Rattle.slots.specs.code.Shape.{Fits};
 ghost use Rattle.slots.specs.Line.{shapeWith, slots};
-ghost use Rattle.slots.specs.Start.{started, unattached};
+ghost use Rattle.start.specs.Start.{started, unattached};
 
 // Each of the two sizes is a number that the compiler knows: the loop then takes fewer instructions.
 pub fn start_line(line: &mut [u8], shape: Shape)

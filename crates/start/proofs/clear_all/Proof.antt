@@ -5,12 +5,12 @@ use native.Mathlib.Omega.{arith}
 use borrow.Author.Needs.{needs}
 use lib.ListN.{length}
 use borrow.Rule.Slice.PartMut.{same-len-mid}
 use Rattle.slots.specs.Line.{shapeWith, slots, update}
-use Rattle.slots.specs.Start.{unattached}
+use Rattle.start.specs.Start.{unattached}
 use Rattle.slots.proofs.LineLaws.{length-slots, lent-length, lentLength, line-update, slot-end}
-use Rattle.slots.proofs.TurnLaws.{mapTo, mapTo-all, mapTo-more}
-use Rattle.slots.proofs.start.clear_all.Statement.{statement}
-use Rattle.slots.proofs.start.clear_all.Tie as tie
+use Rattle.start.proofs.TurnLaws.{mapTo, mapTo-all, mapTo-more}
+use Rattle.start.proofs.clear_all.Statement.{statement}
+use Rattle.start.proofs.clear_all.Tie as tie
 
 abbrev Inv-loop : tie.InvT-loop
 Inv-loop line₀ size n i₀ line i = (i ≤ n) × (length line ≡ length line₀) × (slots (shapeWith size n) line ≡ mapTo unattached i (slots (shapeWith size n) line₀))
