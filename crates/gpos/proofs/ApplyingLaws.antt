@@ -20,15 +20,15 @@ use Rattle.answers.specs.code.Effect.{MadeOn}
 use Rattle.answers.specs.declared.Refusal.{Refusal}
 use Rattle.answers.proofs.OutcomeLaws.{made-by, made-refused, outcome-refused}
 use Rattle.answers.proofs.TestLaws.{clear-first, clear-parts, go-on, of-unless, refused-early}
-use Rattle.gpos.specs.code.Checked.{SlotsChecked}
-use Rattle.gpos.specs.code.Neighbours.{badPlace}
-use Rattle.gpos.specs.Checks.{applying, badScale, slotTests}
-use Rattle.gpos.specs.declared.checks.Checked.{Checked}
-use Rattle.gpos.specs.declared.checks.Checked.the-variants.{Slots, Refused}
-use Rattle.gpos.specs.declared.neighbours.Beside.{Beside}
-use Rattle.gpos.proofs.CheckLaws.{Clear, clear}
+use Rattle.checks.specs.code.Checked.{SlotsChecked}
+use Rattle.checks.specs.code.Neighbours.{badPlace}
+use Rattle.checks.specs.Arguments.{applying, badScale, slotTests}
+use Rattle.checks.specs.declared.arguments.Checked.{Checked}
+use Rattle.checks.specs.declared.arguments.Checked.the-variants.{Slots, Refused}
+use Rattle.checks.specs.declared.neighbours.Beside.{Beside}
+use Rattle.checks.proofs.CheckLaws.{Clear, clear}
+use Rattle.checks.proofs.TestLaws.{in-scale, number-good}
 use Rattle.gpos.proofs.NeighbourLaws.{in-place, Near}
-use Rattle.gpos.proofs.TestLaws.{in-scale, number-good}
 
 -- the call: its numbers, what is beside its index, whether its subtable is good, and its core by the direction
 pub record Parts : Type 0 where

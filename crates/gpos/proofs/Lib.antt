@@ -1,6 +1,5 @@
-pub mod TestLaws
 pub mod NeighbourLaws
-pub mod CheckLaws
+pub mod DoneLaws
 pub mod ApplyingLaws
 pub mod MovingLaws
 pub mod Unique

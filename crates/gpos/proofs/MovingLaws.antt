@@ -9,7 +9,7 @@ use borrow.Author.Tests.{eq-eqb, ne-eqb}
 use lib.Dec.{eqb}
 use lib.ListN.{length}
 use Rattle.ints.specs.BigEndian.{AllBytes}
-use Rattle.slots.specs.Checks.{badLine, mostSlots, badSlots}
+use Rattle.slots.specs.Checks.{badLine, mostSlots}
 use Rattle.slots.specs.Line.{bytes, count, lineSlots, shapeOf, shapeWith, slots}
 use Rattle.slots.specs.code.Shape.{Fits}
 use Rattle.slots.specs.Slot.{clusteredSize, known, Slot, slotSize}
@@ -21,11 +21,12 @@ use Rattle.answers.specs.Said.{done, refusalNumber, refused, Said, unless}
 use Rattle.answers.specs.declared.Refusal.{Refusal}
 use Rattle.answers.proofs.OutcomeLaws.{outcome-done, outcome-refused}
 use Rattle.answers.proofs.TestLaws.{go-on, refused-early}
-use Rattle.gpos.specs.code.Checked.{LineChecked}
+use Rattle.checks.specs.Ranges.{badSlots}
+use Rattle.checks.specs.code.Checked.{LineChecked}
+use Rattle.checks.specs.declared.arguments.Checked.{Checked}
+use Rattle.checks.specs.declared.arguments.Checked.the-variants.{Refused}
+use Rattle.checks.proofs.CheckLaws.{Clear}
 use Rattle.gpos.specs.Moving.{moveSaid}
-use Rattle.gpos.specs.declared.checks.Checked.{Checked}
-use Rattle.gpos.specs.declared.checks.Checked.the-variants.{Refused}
-use Rattle.gpos.proofs.CheckLaws.{Clear}
 
 -- a target of n slots of y bytes
 module _ (y : ℕ) (size : known y ≡ true) (n : ℕ) (t : List ℕ) (is : length t ≡ n * y) where

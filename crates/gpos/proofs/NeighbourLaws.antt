@@ -1,18 +1,18 @@
 -- What is known of an index, and of what is beside it, that refusal 5 finds no fault with. Assumes nothing.
 use mathlib.Core.Path.{_≡_}
-use mathlib.Core.Bool.{Bool, true, false, _||_}
-use Prim.Native.Nat.{ℕ, _<_, _≤_}
-use borrow.Author.Tests.{le-leb, leb-false}
+use mathlib.Core.Bool.{Bool, false, _||_}
+use Prim.Native.Nat.{ℕ, _<_}
+use borrow.Author.Tests.{leb-false}
 use lib.Dec.{leb}
 use Rattle.ints.proofs.TestLaws.{or-false}
 use Rattle.answers.specs.declared.Neighbour.{Neighbour}
 use Rattle.answers.specs.declared.Neighbour.the-variants.{Named, Missing}
 use Rattle.pair.specs.code.Meant.{After}
 use Rattle.cursive.specs.code.Meant.{Before}
-use Rattle.gpos.specs.Neighbours.{badAfter, badBefore}
-use Rattle.gpos.specs.code.Neighbours.{badPlace}
-use Rattle.gpos.specs.declared.neighbours.Beside.{Beside}
-use Rattle.gpos.specs.declared.neighbours.Beside.the-variants.{Nothing, Second, Previous}
+use Rattle.checks.specs.Neighbours.{badAfter, badBefore}
+use Rattle.checks.specs.code.Neighbours.{badPlace}
+use Rattle.checks.specs.declared.neighbours.Beside.{Beside}
+use Rattle.checks.specs.declared.neighbours.Beside.the-variants.{Nothing, Second, Previous}
 
 -- where neither the index nor the rest of the test is bad, the index is in the line
 index-in : (n i : ℕ) (bad : Bool) → leb n i || bad ≡ false → (i < n) × (bad ≡ false)
@@ -38,9 +38,3 @@ pub in-place : (n i : ℕ) (b : Beside) → badPlace n i b ≡ false → (i < n)
 in-place n i Nothing e = (leb-false n i e, tt)
 in-place n i (Second b) e = let f = index-in n i (badAfter n i b) e in (f .0, after n i b (f .1))
 in-place n i (Previous b) e = let f = index-in n i (badBefore n i b) e in (f .0, before n i b (f .1))
-
--- an index past the line is bad with anything beside it
-pub out-of-line : (n i : ℕ) (b : Beside) → n ≤ i → true ≡ badPlace n i b
-out-of-line n i Nothing h = rw (le-leb n i h)
-out-of-line n i (Second b) h = rw (le-leb n i h)
-out-of-line n i (Previous b) h = rw (le-leb n i h)

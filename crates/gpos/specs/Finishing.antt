@@ -8,7 +8,7 @@ use Rattle.finish_rules.specs.Finish.{finished, maxNestingLevel}
 use Rattle.answers.specs.Outcome.{Call, Made}
 use Rattle.answers.specs.Said.{done, saidDone, unless}
 use Rattle.answers.specs.declared.Done.{Done}
-use Rattle.gpos.specs.Checks.{slotTests}
+use Rattle.checks.specs.Arguments.{slotTests}
 
 -- refusals 2 to 4, a nesting limit above the most among them; else done, and the slots are finished
 abbrev pub finish : ℕ → ℕ → Bool → Call

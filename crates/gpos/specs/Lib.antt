@@ -1,5 +1,3 @@
-pub mod Checks  -- the tests for which calls refuse, in order
-pub mod Neighbours  -- refusal 5: index and neighbours
 pub mod Starting  -- starting
 pub mod Finishing  -- finishing
 pub mod SinglePos  -- single adjustment
@@ -7,4 +5,3 @@ pub mod PairPos  -- pair adjustment
 pub mod CursivePos  -- cursive attachment
 pub mod MarkPos  -- mark attachment
 pub mod Moving  -- moving to slots with a cluster, and back
-pub mod code  -- what code's values stand for

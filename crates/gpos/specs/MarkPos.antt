@@ -10,7 +10,7 @@ use Rattle.marks.specs.Attachment.{markAttachment}
 use Rattle.answers.specs.Outcome.{Call, Made}
 use Rattle.answers.specs.Said.{said}
 use Rattle.answers.specs.declared.Answer.{Answer}
-use Rattle.gpos.specs.Checks.{applying}
+use Rattle.checks.specs.Arguments.{applying}
 
 -- the call with the subtable t, for the mark in slot i, by the target: attachment to a base or to a ligature; refusal 7
 -- is among what mark attachment says

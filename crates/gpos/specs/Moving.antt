@@ -4,13 +4,14 @@ use mathlib.Core.List.{List, [], _∷_}
 use Prim.Native.Nat.{ℕ, _*_}
 use lib.Dec.{eqb}
 use lib.ListN.{length}
-use Rattle.slots.specs.Checks.{badLine, badSlots}
+use Rattle.slots.specs.Checks.{badLine}
 use Rattle.slots.specs.Numbered.{isNumberedFrom, numberedFrom}
 use Rattle.slots.specs.Line.{count, lineSlots}
 use Rattle.slots.specs.Slot.{clusteredSize, slotSize}
 use Rattle.answers.specs.Outcome.{Outcome}
 use Rattle.answers.specs.Said.{Said, done, saidMoved, unless}
 use Rattle.answers.specs.declared.Moved.{Moved}
+use Rattle.checks.specs.Ranges.{badSlots}
 
 -- what a move of the line l, of slots of z bytes, into the target t, of slots of y bytes, says: refusals 1 and 4 of the
 -- line; 10 where the target's length is not just the moved line's, or where a cluster would be lost

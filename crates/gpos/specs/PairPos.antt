@@ -9,8 +9,8 @@ use Rattle.answers.specs.Outcome.{Call, Made}
 use Rattle.answers.specs.Said.{said}
 use Rattle.answers.specs.declared.Answer.{Answer}
 use Rattle.answers.specs.declared.Neighbour.{Neighbour}
-use Rattle.gpos.specs.Neighbours.{badSecond}
-use Rattle.gpos.specs.Checks.{applying}
+use Rattle.checks.specs.Neighbours.{badSecond}
+use Rattle.checks.specs.Arguments.{applying}
 
 -- the call with the subtable t, for slot i and the second slot that the caller names
 abbrev pub pair : (t : List ℕ) (direction s u i : ℕ) (second : Neighbour) → Call

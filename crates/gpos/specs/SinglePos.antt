@@ -8,7 +8,7 @@ use Rattle.single.specs.SinglePos.{singleAdjustment, singleGood}
 use Rattle.answers.specs.Outcome.{Call, Made}
 use Rattle.answers.specs.Said.{said}
 use Rattle.answers.specs.declared.Answer.{Answer}
-use Rattle.gpos.specs.Checks.{applying}
+use Rattle.checks.specs.Arguments.{applying}
 
 -- the call with the subtable t, for slot i
 abbrev pub single : (t : List ℕ) (direction s u i : ℕ) → Call

@@ -1,7 +1,7 @@
 // Finishing a line.
-use crate::checks::Checked;
-use crate::checks::check_slots;
 use answers::Done;
+use checks::arguments::Checked;
+use checks::arguments::check_slots;
 use finish::finishing::MAX_NESTING_LEVEL;
 use slots::axis::direction_of;
 ghost use Rattle.gpos.specs.Finishing.{FinishCall};

@@ -1,12 +1,10 @@
 // Glyph positioning on lines of slots: the public calls. Each takes any bytes and any numbers, checks each argument
 // once, and answers as docs/RULES.md says; the work is done by the cores below. A refusal or a decline leaves the
 // line, or a move's target, as it was.
-mod checks;
 mod cursive_pos;
 mod finishing;
 mod mark_pos;
 mod moving;
-mod neighbours;
 mod pair_pos;
 mod single_pos;
 mod starting;

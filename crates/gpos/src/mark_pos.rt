@@ -1,10 +1,10 @@
 // Mark attachment, to a base or to a ligature.
-use crate::checks::Checked;
-use crate::checks::check_call;
-use crate::neighbours::Beside;
-use crate::neighbours::is_bad_place;
 use answers::Answer;
 use answers::Refusal;
+use checks::arguments::Checked;
+use checks::arguments::check_call;
+use checks::neighbours::Beside;
+use checks::neighbours::is_bad_place;
 use slots::axis::direction_of;
 use targets::mark_pos::Target;
 ghost use Rattle.targets.specs.declared.mark_pos.Target.the-variants.{Base, Ligature};

@@ -1,7 +1,7 @@
 // Moving a line to slots with a cluster, and back.
-use crate::checks::Checked;
-use crate::checks::check_line;
 use answers::Moved;
+use checks::arguments::Checked;
+use checks::arguments::check_line;
 ghost use Rattle.gpos.specs.Moving.{ToClustersCall, FromClustersCall};
 
 // Writes a line of slots of 24 bytes to `target` as slots of 28, each slot's cluster its number. The target must be

@@ -1,10 +1,10 @@
 // Single adjustment.
-use crate::checks::Checked;
-use crate::checks::check_call;
-use crate::neighbours::Beside;
-use crate::neighbours::is_bad_place;
 use answers::Answer;
 use answers::Refusal;
+use checks::arguments::Checked;
+use checks::arguments::check_call;
+use checks::neighbours::Beside;
+use checks::neighbours::is_bad_place;
 use slots::axis::direction_of;
 ghost use Rattle.gpos.specs.SinglePos.{SingleCall};
 

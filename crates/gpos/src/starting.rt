@@ -1,7 +1,7 @@
 // Starting a line.
-use crate::checks::Checked;
-use crate::checks::check_line;
 use answers::Done;
+use checks::arguments::Checked;
+use checks::arguments::check_line;
 ghost use Rattle.gpos.specs.Starting.{StartCall};
 
 // Starts a line of slots of `size` bytes, 24 or 28: every chain and type becomes 0, and nothing else changes. Refusals

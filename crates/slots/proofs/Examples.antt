@@ -1,5 +1,5 @@
--- Values worked by hand from the rules: a slot's bytes, the ranges of its fields, the line's length, parents. They compute. Assumes nothing.
-use mathlib.Core.Bool.{Bool, true, false}
+-- Values worked by hand from the rules: a slot's bytes, the line's length, parents. They compute. Assumes nothing.
+use mathlib.Core.Bool.{true, false}
 use mathlib.Core.List.{List, [], _∷_, _++_, map}
 use mathlib.Core.Path.{_≡_, refl}
 use Prim.Native.Nat.{ℕ, zero, suc}
@@ -7,14 +7,12 @@ use lib.IntN.{ℤ, pos}
 use Rattle.ints.specs.BigEndian.{digits, natAt}
 use Rattle.ints.specs.Saturating.{minus}
 use Rattle.ints.specs.Signed.{intAt, pattern, signed}
-use Rattle.slots.specs.Checks.{badLine, badSlot, some, badLength, badSlots}
+use Rattle.slots.specs.Checks.{badLine, badLength}
 use Rattle.slots.specs.theorems.Clusters.{clusters, plainLine, plainN}
 use Rattle.slots.specs.Numbered.{isNumberedFrom, numberedFrom}
-use Rattle.slots.specs.Fields.{attached, flagIn, withByte, withCluster}
+use Rattle.slots.specs.Fields.{attached, flagIn, withCluster}
 use Rattle.slots.specs.Parent.{parent}
 use Rattle.slots.specs.Slot.{bytesOf, noSlot, plainBytes, Slot, slotOf}
-use Rattle.slots.specs.declared.fields.ByteField.{ByteField}
-use Rattle.slots.specs.declared.fields.ByteField.the-variants.{LigatureId, Component, Flags, AttachType}
 use Rattle.slots.specs.declared.fields.Flag.the-variants.{Seen, Mark, Multiplied}
 use Rattle.slots.specs.declared.parent.Parent.{Parent}
 use Rattle.slots.specs.declared.parent.Parent.the-variants.{None, Outside, InLine}
@@ -56,10 +54,6 @@ abbrev zeros : ℕ → List ℕ
 zeros zero = []
 zeros (suc n) = 0 ∷ zeros n
 
--- is a slot with one byte at n, all else 0, out of range?
-abbrev out : ByteField → ℕ → Bool
-out f n = badSlot (withByte f n noSlot)
-
 -- the parent of slot 1 of three, by its chain
 abbrev parentAt : ℤ → Parent
 parentAt c = parent (noSlot ∷ attached 2 c noSlot ∷ noSlot ∷ []) 1
@@ -79,11 +73,6 @@ pub record Worked : Type 0 where
   pub sizes : map (λ (z : ℕ). badLine z (zeros 168)) (24 ∷ 28 ∷ 12 ∷ 56 ∷ []) ≡ (false ∷ false ∷ true ∷ true ∷ []) × map (λ (z : ℕ). badLine z []) (0 ∷ 26 ∷ []) ≡ (true ∷ true ∷ [])
   -- 1,024 slots are the most: 24,576 bytes, and 28,672 with clusters
   pub longest : (map (badLength 24) (24576 ∷ 24600 ∷ []) ≡ (false ∷ true ∷ [])) × (map (badLength 28) (24584 ∷ 28672 ∷ 28700 ∷ []) ≡ (false ∷ false ∷ true ∷ []))
-  -- refusal 4: id 7, component 15, flags 7 are in range, one more is not; any type is
-  pub ranges : (map (out LigatureId) (7 ∷ 8 ∷ []) ≡ (false ∷ true ∷ [])) × (map (out Component) (15 ∷ 16 ∷ []) ≡ (false ∷ true ∷ []))
-      × (map (out Flags) (7 ∷ 8 ∷ []) ≡ (false ∷ true ∷ [])) × (map (out AttachType) (0 ∷ 3 ∷ 255 ∷ []) ≡ (false ∷ false ∷ false ∷ []))
-  -- it looks at every slot, the last too
-  pub last-slot : badSlots (noSlot ∷ withByte Flags 8 noSlot ∷ []) ≡ true
   -- chain 0 is not attached; a parent is in the line from slot 0 to the last, and else outside, however far
   pub parents : map parentAt (pos 0 ∷ minus 1 ∷ pos 1 ∷ minus 2 ∷ pos 2 ∷ minus 32768 ∷ pos 32767 ∷ [])
       ≡ (None ∷ InLine 0 ∷ InLine 2 ∷ Outside ∷ Outside ∷ Outside ∷ Outside ∷ [])
@@ -92,7 +81,7 @@ pub record Worked : Type 0 where
   pub numbered : map (isNumberedFrom 0) ((noSlot ∷ withCluster 1 noSlot ∷ []) ∷ (noSlot ∷ noSlot ∷ []) ∷ (clusteredSlot ∷ []) ∷ [] ∷ []) ≡ (true ∷ false ∷ false ∷ true ∷ [])
 
 pub worked : Worked
-unfolding digits natAt pattern signed intAt slotOf plainBytes some parent numberedFrom isNumberedFrom plainN
+unfolding digits natAt pattern signed intAt slotOf plainBytes parent numberedFrom isNumberedFrom plainN
 worked = record {
   fields = (refl, refl);
   clusters-are = (refl, refl, refl);
@@ -101,8 +90,6 @@ worked = record {
   lengths-clustered = refl;
   sizes = (refl, refl);
   longest = (refl, refl);
-  ranges = (refl, refl, refl, refl);
-  last-slot = refl;
   parents = refl;
   numbers = (refl, refl);
   numbered = refl;

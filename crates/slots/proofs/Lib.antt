@@ -4,7 +4,5 @@ pub mod LineLaws
 pub mod ShapeLaws
 pub mod FieldLaws
 pub mod ParentLaws
-pub mod RangeLaws
 pub mod ChainLaws
-pub mod SearchLaws
 pub mod Examples

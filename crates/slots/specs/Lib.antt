@@ -4,6 +4,6 @@ pub mod Line  -- the line as a list of slots
 pub mod Fields  -- the fields of a slot
 pub mod Numbered  -- slots whose cluster is their number
 pub mod Parent  -- a slot's parent
-pub mod Checks  -- refusals 1 and 4
+pub mod Checks  -- refusal 1
 pub mod code  -- what code's values stand for
 pub mod theorems  -- what only theorems speak of

@@ -1,3 +1,2 @@
 pub mod Shape  -- bytes that have a shape
 pub mod Fields  -- where in a slot's bytes a field is
-pub mod Checks  -- the small fields of slots as one number

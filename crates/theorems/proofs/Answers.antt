@@ -25,12 +25,12 @@ use Rattle.answers.specs.Outcome.{Call}
 use Rattle.answers.specs.Said.{applied, declined, Range, refused, Said, said}
 use Rattle.answers.specs.declared.Answer.{Answer}
 use Rattle.answers.specs.declared.Neighbour.{Neighbour}
+use Rattle.checks.specs.declared.neighbours.Beside.{Beside}
+use Rattle.checks.specs.declared.neighbours.Beside.the-variants.{Nothing, Second, Previous}
 use Rattle.gpos.specs.SinglePos.{SingleCall}
 use Rattle.gpos.specs.PairPos.{PairCall}
 use Rattle.gpos.specs.CursivePos.{CursiveCall}
 use Rattle.gpos.specs.MarkPos.{MarkCall}
-use Rattle.gpos.specs.declared.neighbours.Beside.{Beside}
-use Rattle.gpos.specs.declared.neighbours.Beside.the-variants.{Nothing, Second, Previous}
 use Rattle.gpos.proofs.ApplyingLaws.{of-made, Parts}
 use Rattle.theorems.specs.Next.{Advances}
 

@@ -15,7 +15,6 @@ use Rattle.slots.specs.Fields.{advance, measure, withChain, withCluster, withMe
 use Rattle.slots.specs.theorems.Clusters.{Blind, clusters, KeepsClusters, withClusters}
 use Rattle.slots.specs.Numbered.{numberedFrom}
 use Rattle.slots.specs.Parent.{byParent, cleared, isAttached, parent, parentBy}
-use Rattle.slots.specs.Checks.{badSlot, some}
 use Rattle.slots.specs.declared.axis.Axis.{Axis}
 use Rattle.slots.specs.declared.axis.Axis.the-variants.{X, Y}
 use Rattle.slots.specs.declared.fields.Measure.{Measure}
@@ -23,6 +22,7 @@ use Rattle.slots.specs.declared.fields.Measure.the-variants.{Advance, Offset}
 use Rattle.slots.specs.declared.parent.Parent.{Parent}
 use Rattle.slots.specs.declared.parent.Parent.the-variants.{None, Outside, InLine}
 use Rattle.start.specs.Start.{started, unattached}
+use Rattle.checks.specs.Ranges.{badSlot, some}
 
 -- ---- the slots with other clusters
 -- no clusters leave the slots

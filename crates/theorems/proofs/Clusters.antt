@@ -33,9 +33,9 @@ use Rattle.finish_rules.proofs.SettledLaws.{finished-count}
 use Rattle.answers.specs.Outcome.{answerTo, Call, lineAfter, Made}
 use Rattle.answers.specs.Said.{Said, applied, declined, done, refused, unless}
 use Rattle.answers.specs.declared.Neighbour.{Neighbour}
+use Rattle.checks.specs.Neighbours.{badPrevious, badSecond}
+use Rattle.checks.specs.Arguments.{applyingTests}
 use Rattle.theorems.specs.Clusters.{Apart, Same}
-use Rattle.gpos.specs.Neighbours.{badPrevious, badSecond}
-use Rattle.gpos.specs.Checks.{applyingTests}
 use Rattle.gpos.specs.Starting.{start}
 use Rattle.gpos.specs.Finishing.{finish as finishCall}
 use Rattle.gpos.specs.SinglePos.{single as singleCall}

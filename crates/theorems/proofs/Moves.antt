@@ -9,7 +9,7 @@ use lib.Dec.{eqb}
 use lib.ListN.{length}
 use Rattle.ints.specs.BigEndian.{AllBytes}
 use Rattle.ints.proofs.TestLaws.{or-false}
-use Rattle.slots.specs.Checks.{badLine, mostSlots, badSlots}
+use Rattle.slots.specs.Checks.{badLine, mostSlots}
 use Rattle.slots.specs.Numbered.{isNumberedFrom, numberedFrom}
 use Rattle.slots.specs.theorems.Clusters.{plainLine, plainN, withClusters}
 use Rattle.slots.specs.Fields.{withCluster}
@@ -26,6 +26,7 @@ use Rattle.answers.specs.declared.Moved.{Moved}
 use Rattle.answers.specs.declared.Moved.the-variants.{Done as MovedNow}
 use Rattle.answers.proofs.SaidLaws.{saidMoved-same}
 use Rattle.answers.proofs.TestLaws.{clear-first}
+use Rattle.checks.specs.Ranges.{badSlots}
 use Rattle.theorems.specs.Clusters.{Apart, Same}
 use Rattle.theorems.proofs.Clusters.{same-without}
 use Rattle.gpos.specs.Moving.{ToClustersCall, moveSaid, FromClustersCall}

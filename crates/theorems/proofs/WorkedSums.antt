@@ -12,7 +12,6 @@ use Rattle.ints.specs.Signed.{intAt, pattern, signed}
 use Rattle.ints.specs.Sums.{stepwise}
 use Rattle.ints.specs.Tally.{bit, tally, nearest}
 use Rattle.slots.specs.Axis.{directionOf}
-use Rattle.slots.specs.Checks.{some}
 use Rattle.slots.specs.Fields.{attached, withPlace, withIdentity}
 use Rattle.slots.specs.Line.{bytes, slot, slots, slotsN, update}
 use Rattle.slots.specs.Parent.{cleared, parent}
@@ -41,6 +40,7 @@ use Rattle.marks.specs.Plan.{planOf as markPlan}
 use Rattle.finish_rules.specs.Finish.{finished, takenIn, settled, settledUp, shifted}
 use Rattle.answers.specs.Said.{applied, unsafeToBreak, unsafeToConcat, Said}
 use Rattle.answers.specs.declared.Neighbour.the-variants.{Named}
+use Rattle.checks.specs.Ranges.{some}
 use Rattle.gpos.specs.CursivePos.{cursive as cursiveCall}
 use Rattle.gpos.specs.Finishing.{finish as finishCall}
 use Rattle.gpos.specs.MarkPos.{mark as markCall}

@@ -4,7 +4,7 @@ use Rattle.cursive.specs.Attachment.{cursiveAttachment}
 use Rattle.cursive.specs.CursivePos.{cursiveGood}
 use Rattle.slots.specs.declared.shape.Shape.{Shape}
 use Rattle.answers.specs.Said.{said}
-use Rattle.gpos.specs.declared.neighbours.Beside.the-variants.{Previous}
+use Rattle.checks.specs.declared.neighbours.Beside.the-variants.{Previous}
 use Rattle.gpos.proofs.ApplyingLaws.{by-core, Cleared, cleared, Parts, passed, refused-by, refused-index, refused-subtable}
 use borrow.Author.Needs.{needs}
 use Rattle.gpos.proofs.cursive_pos.cursive.Statement.{statement}

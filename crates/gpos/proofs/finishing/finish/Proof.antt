@@ -7,7 +7,8 @@ use Rattle.slots.specs.declared.axis.Direction.{Direction}
 use Rattle.finish_rules.specs.Finish.{finished}
 use Rattle.answers.specs.Outcome.{Call}
 use Rattle.gpos.specs.Finishing as gpos
-use Rattle.gpos.proofs.CheckLaws.{clear, done-so, refused-so}
+use Rattle.checks.proofs.CheckLaws.{clear}
+use Rattle.gpos.proofs.DoneLaws.{done-so, refused-so}
 use borrow.Author.Needs.{needs}
 use Rattle.gpos.proofs.finishing.finish.Statement.{statement}
 use Rattle.gpos.proofs.finishing.finish.Tie as tie

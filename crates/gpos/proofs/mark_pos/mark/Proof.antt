@@ -4,7 +4,7 @@ use Rattle.targets.specs.MarkPos.{marksGood}
 use Rattle.marks.specs.Attachment.{markAttachment}
 use Rattle.slots.specs.declared.shape.Shape.{Shape}
 use Rattle.answers.specs.Said.{said}
-use Rattle.gpos.specs.declared.neighbours.Beside.the-variants.{Nothing}
+use Rattle.checks.specs.declared.neighbours.Beside.the-variants.{Nothing}
 use Rattle.gpos.proofs.ApplyingLaws.{by-core, Cleared, cleared, Parts, passed, refused-by, refused-index, refused-subtable}
 use borrow.Author.Needs.{needs}
 use Rattle.gpos.proofs.mark_pos.mark.Statement.{statement}

@@ -7,7 +7,7 @@ use Rattle.slots.specs.Line.{bytes, lineSlots, shapeWith, slots}
 use Rattle.slots.specs.Slot.{clusteredSize, slotSize}
 use Rattle.slots.specs.declared.shape.Shape.{Shape}
 use Rattle.moves.proofs.MoveLaws.{bytes-plain}
-use Rattle.gpos.proofs.CheckLaws.{Clear, clear}
+use Rattle.checks.proofs.CheckLaws.{Clear, clear}
 use Rattle.gpos.proofs.MovingLaws.{count-fits, count-shape, few-clustered, line-refused, lineSaid, moved, target-bytes, target-fits, would-lose, wrong-length}
 use borrow.Author.Needs.{needs}
 use Rattle.gpos.proofs.moving.from_clusters.Statement.{statement}

@@ -6,7 +6,7 @@ use Rattle.slots.specs.Numbered.{numberedFrom}
 use Rattle.slots.specs.Line.{lineSlots, slots}
 use Rattle.slots.specs.Slot.{clusteredSize, slotSize}
 use Rattle.slots.specs.declared.shape.Shape.{Shape}
-use Rattle.gpos.proofs.CheckLaws.{Clear, clear}
+use Rattle.checks.proofs.CheckLaws.{Clear, clear}
 use Rattle.gpos.proofs.MovingLaws.{count-fits, count-shape, few-slots, line-refused, lineSaid, moved, target-bytes, target-fits, wrong-length}
 use borrow.Author.Needs.{needs}
 use Rattle.gpos.proofs.moving.to_clusters.Statement.{statement}

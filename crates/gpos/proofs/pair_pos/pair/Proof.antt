@@ -4,7 +4,7 @@ use Rattle.pair.specs.Adjustment.{pairAdjustment}
 use Rattle.pair.specs.PairPos.{pairGood}
 use Rattle.slots.specs.declared.shape.Shape.{Shape}
 use Rattle.answers.specs.Said.{said}
-use Rattle.gpos.specs.declared.neighbours.Beside.the-variants.{Second}
+use Rattle.checks.specs.declared.neighbours.Beside.the-variants.{Second}
 use Rattle.gpos.proofs.ApplyingLaws.{by-core, Cleared, cleared, Parts, passed, refused-by, refused-index, refused-subtable}
 use borrow.Author.Needs.{needs}
 use Rattle.gpos.proofs.pair_pos.pair.Statement.{statement}

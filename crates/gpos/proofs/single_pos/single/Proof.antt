@@ -3,7 +3,7 @@ use mathlib.Core.Path.{sym, _∙_}
 use Rattle.single.specs.SinglePos.{singleAdjustment, singleGood}
 use Rattle.slots.specs.declared.shape.Shape.{Shape}
 use Rattle.answers.specs.Said.{said}
-use Rattle.gpos.specs.declared.neighbours.Beside.the-variants.{Nothing}
+use Rattle.checks.specs.declared.neighbours.Beside.the-variants.{Nothing}
 use Rattle.gpos.proofs.ApplyingLaws.{by-core, Cleared, cleared, Parts, passed, refused-by, refused-index, refused-subtable}
 use borrow.Author.Needs.{needs}
 use Rattle.gpos.proofs.single_pos.single.Statement.{statement}

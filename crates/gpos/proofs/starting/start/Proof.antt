@@ -1,6 +1,7 @@
 -- A refusal is the checks'; else the slots decide the bytes. Assumes nothing.
 use Rattle.gpos.specs.Starting as call
-use Rattle.gpos.proofs.CheckLaws.{clear, done-so, refused-so}
+use Rattle.checks.proofs.CheckLaws.{clear}
+use Rattle.gpos.proofs.DoneLaws.{done-so, refused-so}
 use borrow.Author.Needs.{needs}
 use Rattle.gpos.proofs.starting.start.Statement.{statement}
 use Rattle.gpos.proofs.starting.start.Tie as tie
