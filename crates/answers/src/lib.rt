@@ -4,8 +4,8 @@ ghost use mathlib.Core.List.{[], _∷_};
 ghost use mathlib.Core.Path.{_≡_};
 ghost use Rattle.answers.specs.Said.{unsafeToBreak, unsafeToConcat, range, ranges, refusalNumber};
 
-// The other glyph of a pair or of a cursive attachment: the slot that the caller names, or none, with the bound that it
-// names instead.
+// The other glyph of a pair, of a cursive attachment or of a mark on a mark: the slot that the caller names, or none,
+// with the bound that it names instead.
 pub enum Neighbour {
     Named(usize),
     Missing(usize),

@@ -3,7 +3,7 @@ use mathlib.Core.Path.{_≡_}
 use mathlib.Core.Bool.{true}
 use Prim.Native.Nat.{ℕ, _≤_}
 use borrow.Author.Tests.{le-leb}
-use Rattle.checks.specs.code.Neighbours.{badPlace}
+use Rattle.checks.specs.Neighbours.{badPlace}
 use Rattle.checks.specs.declared.neighbours.Beside.{Beside}
 use Rattle.checks.specs.declared.neighbours.Beside.the-variants.{Nothing, Second, Previous}
 

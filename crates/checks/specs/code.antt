@@ -1,3 +1,2 @@
 pub mod Ranges  -- the small fields of slots as one number
 pub mod Checked  -- what the checks that calls share find
-pub mod Neighbours  -- what a call is made on

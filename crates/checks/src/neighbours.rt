@@ -1,15 +1,14 @@
 // What refusal 5 asks of an index and of the neighbour that the caller names, in a line of n slots.
 use answers::Neighbour;
 ghost use mathlib.Core.Path.{_≡_};
-ghost use Rattle.checks.specs.Neighbours.{badAfter, badBefore};
-ghost use Rattle.checks.specs.code.Neighbours.{badPlace};
+ghost use Rattle.checks.specs.Neighbours.{badAfter, badBefore, badPlace};
 
 // What a call is made on beside the slot at its index.
 pub enum Beside {
     Nothing,
     // The second glyph of a pair.
     Second(Neighbour),
-    // The glyph to which a cursive attachment joins.
+    // The glyph to which a cursive attachment joins, or the earlier mark.
     Previous(Neighbour),
 }
 

@@ -31,10 +31,10 @@ ghost use Rattle.slots.specs.Line.{slots, update};
 ghost use Rattle.tables.specs.code.Meant.{Near16, pointOf};
 ghost use Rattle.answers.specs.code.Effect.{MadeOn};
 ghost use Rattle.answers.specs.Said.{said};
+ghost use Rattle.answers.specs.code.Neighbours.{Before};
 ghost use Rattle.cursive.specs.Attachment.{cursiveAttachment, crossed, ended, joinedAt, previousJoined, pulled};
 ghost use Rattle.cursive.specs.Attachment.{rightToLeft, scaledAt, separatedBy, thisJoined, tied};
 ghost use Rattle.cursive.specs.CursivePos.{cursiveGood};
-ghost use Rattle.cursive.specs.code.Meant.{Before};
 
 // The core: makes the plan for slot idx, and joins it to the previous slot or leaves the line as it was.
 // Whatever a public call refuses has been refused before.

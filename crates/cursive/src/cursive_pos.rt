@@ -18,9 +18,10 @@ ghost use Rattle.ints.specs.Limits.{whole16};
 ghost use Rattle.slots.specs.code.Shape.{HasNext, Inside};
 ghost use Rattle.slots.specs.Line.{slots};
 ghost use Rattle.tables.specs.code.Meant.{AnchorNear, Near16, anchorPoint, pointOf};
+ghost use Rattle.answers.specs.code.Neighbours.{Before};
 ghost use Rattle.cursive.specs.CursivePos.{cursiveGood, afterEntry, afterExit, afterNeighbour, afterPrevious};
 ghost use Rattle.cursive.specs.CursivePos.{indexOf, planOf, recordAnchor};
-ghost use Rattle.cursive.specs.code.Meant.{Before, meant, Sound};
+ghost use Rattle.cursive.specs.code.Meant.{meant, Sound};
 
 // The fields after POS_FORMAT and COVERAGE_OFFSET.
 const ENTRY_EXIT_COUNT: usize = 4;

@@ -21,7 +21,7 @@ use Rattle.answers.specs.declared.Refusal.{Refusal}
 use Rattle.answers.proofs.OutcomeLaws.{made-by, made-refused, outcome-refused}
 use Rattle.answers.proofs.TestLaws.{clear-first, clear-parts, go-on, of-unless, refused-early}
 use Rattle.checks.specs.code.Checked.{SlotsChecked}
-use Rattle.checks.specs.code.Neighbours.{badPlace}
+use Rattle.checks.specs.Neighbours.{badPlace}
 use Rattle.checks.specs.Arguments.{applying, badScale, slotTests}
 use Rattle.checks.specs.declared.arguments.Checked.{Checked}
 use Rattle.checks.specs.declared.arguments.Checked.the-variants.{Slots, Refused}

@@ -5,12 +5,11 @@ use Prim.Native.Nat.{ℕ, _<_}
 use borrow.Author.Tests.{leb-false}
 use lib.Dec.{leb}
 use Rattle.ints.proofs.TestLaws.{or-false}
+use Rattle.answers.specs.code.Neighbours.{Before}
 use Rattle.answers.specs.declared.Neighbour.{Neighbour}
 use Rattle.answers.specs.declared.Neighbour.the-variants.{Named, Missing}
 use Rattle.pair.specs.code.Meant.{After}
-use Rattle.cursive.specs.code.Meant.{Before}
-use Rattle.checks.specs.Neighbours.{badAfter, badBefore}
-use Rattle.checks.specs.code.Neighbours.{badPlace}
+use Rattle.checks.specs.Neighbours.{badAfter, badBefore, badPlace}
 use Rattle.checks.specs.declared.neighbours.Beside.{Beside}
 use Rattle.checks.specs.declared.neighbours.Beside.the-variants.{Nothing, Second, Previous}
 

@@ -1,5 +1,5 @@
--- Rows of anchor offsets with one column for each mark class: the BaseArray and LigatureAttach tables (OpenType, GPOS).
--- A uint16 count of rows, then the offsets row by row, from the table's start. Assumes nothing.
+-- Rows of anchor offsets with one column for each mark class: the BaseArray, Mark2Array and LigatureAttach tables
+-- (OpenType, GPOS). A uint16 count of rows, then the offsets row by row, from the table's start. Assumes nothing.
 use mathlib.Core.Bool.{_&&_}
 use mathlib.Core.List.{List}
 use mathlib.Core.Option.{Option, none}
@@ -13,7 +13,7 @@ use Rattle.tables.specs.Anchor.{Point, anchorOf}
 use Rattle.tables.specs.declared.anchor_rows.Rows.{Rows}
 use Rattle.tables.specs.declared.anchor_rows.Rows.the-variants.{Of, Absent}
 
--- how many rows: baseCount of a BaseArray, componentCount of a LigatureAttach
+-- how many rows: baseCount of a BaseArray, mark2Count of a Mark2Array, componentCount of a LigatureAttach
 abbrev pub rowCount : List ℕ → ℕ
 rowCount t = u16At t 0
 

@@ -31,7 +31,7 @@ markRecordSize = 4
 abbrev pub markRecord : ℕ → ℕ
 markRecord k = markRecords + markRecordSize * k
 
--- its class, by which a base or a component has an anchor for it
+-- its class, by which a base, a component or an earlier mark has an anchor for it
 abbrev pub markClass : List ℕ → ℕ → ℕ
 markClass t k = u16At t (markRecord k)
 

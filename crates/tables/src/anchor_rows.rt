@@ -1,4 +1,4 @@
-// Rows of anchors by mark class (`AnchorRows`): base arrays and ligature components.
+// Rows of anchors by mark class (`AnchorRows`): arrays of bases and of earlier marks, and ligature components.
 use crate::anchor::Anchor;
 use crate::anchor::anchor_of;
 use crate::part::OFFSET_SIZE;

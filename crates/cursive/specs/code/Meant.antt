@@ -2,8 +2,6 @@
 use Prim.Native.Nat.{ℕ, _+_, _<_}
 use Rattle.tables.specs.code.Meant.{Near16, pointOf}
 use Rattle.answers.specs.Said.{ranges}
-use Rattle.answers.specs.declared.Neighbour.{Neighbour}
-use Rattle.answers.specs.declared.Neighbour.the-variants.{Named, Missing}
 use Rattle.cursive.specs.CursivePos.{Plan, stop, join}
 use Rattle.cursive.specs.declared.cursive_pos.Plan.{Plan as CodePlan}
 use Rattle.cursive.specs.declared.cursive_pos.Plan.the-variants.{Stop, Join}
@@ -17,8 +15,3 @@ meant (Join previous exit entry) = join previous (pointOf exit) (pointOf entry)
 abbrev pub Sound : ℕ → CodePlan → Type 0
 Sound idx (Stop hs) = Unit {0}
 Sound idx (Join previous exit entry) = (previous < idx) × (Near16 exit × Near16 entry)
-
--- a neighbour that is named is before this slot
-abbrev pub Before : ℕ → Neighbour → Type 0
-Before idx (Named i) = i < idx
-Before idx (Missing f) = Unit {0}

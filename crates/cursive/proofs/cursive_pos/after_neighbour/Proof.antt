@@ -5,9 +5,9 @@ use native.Mathlib.Omega.{arith}
 use denote.Ref.{now}
 use Rattle.slots.specs.Line.{slots}
 use Rattle.tables.specs.code.Meant.{pointOf}
+use Rattle.answers.specs.code.Neighbours.{Before}
 use Rattle.answers.specs.declared.Neighbour.{Neighbour}
 use Rattle.cursive.specs.CursivePos.{afterNeighbour, afterPrevious, indexOf, Plan, stop}
-use Rattle.cursive.specs.code.Meant.{Before}
 use Rattle.cursive.proofs.PlanLaws.{found, told}
 use borrow.Author.Needs.{needs}
 use Rattle.cursive.proofs.cursive_pos.after_neighbour.Statement.{statement}
