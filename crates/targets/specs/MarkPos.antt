@@ -1,6 +1,7 @@
--- The MarkBasePos and MarkLigPos subtables, format 1 (OpenType, GPOS). Both have a header of 12 bytes: uint16
--- posFormat, Offset16 markCoverageOffset, Offset16 baseCoverageOffset or ligatureCoverageOffset, uint16 markClassCount,
--- Offset16 markArrayOffset, Offset16 baseArrayOffset or ligatureArrayOffset. Assumes nothing.
+-- The MarkBasePos, MarkLigPos and MarkMarkPos subtables, format 1 (OpenType, GPOS). Each has a header of 12 bytes:
+-- uint16 posFormat, Offset16 markCoverageOffset, Offset16 baseCoverageOffset, uint16 markClassCount, Offset16
+-- markArrayOffset, Offset16 baseArrayOffset. MarkLigPos says ligature for base; MarkMarkPos says mark1 for mark, and
+-- mark2, the earlier mark, for base. Assumes nothing.
 use mathlib.Core.Bool.{Bool, _&&_}
 use mathlib.Core.List.{List}
 use Prim.Native.Nat.{ℕ}
@@ -11,12 +12,12 @@ use Rattle.tables.specs.Coverage.{coverageAt, coverageGoodAt}
 use Rattle.tables.specs.Header.{mostBytes, posFormat}
 use Rattle.tables.specs.declared.coverage.Covered.{Covered}
 
--- ---- the header's fields after posFormat, by the names of MarkBasePos; MarkLigPos says ligature where it says base
+-- ---- the header's fields after posFormat, by the names of MarkBasePos
 -- where the coverage of the marks is
 abbrev pub markCoverageOffset : List ℕ → ℕ
 markCoverageOffset t = u16At t 2
 
--- where the coverage of the bases or ligatures is
+-- where the coverage of the bases, ligatures or earlier marks is
 abbrev pub baseCoverageOffset : List ℕ → ℕ
 baseCoverageOffset t = u16At t 4
 
@@ -28,7 +29,7 @@ markClassCount t = u16At t 6
 abbrev pub markArrayOffset : List ℕ → ℕ
 markArrayOffset t = u16At t 8
 
--- where the BaseArray or LigatureArray is
+-- where the BaseArray, LigatureArray or Mark2Array is
 abbrev pub baseArrayOffset : List ℕ → ℕ
 baseArrayOffset t = u16At t 10
 
@@ -47,6 +48,6 @@ marksGood t =
 unfoldable pub markIndex : List ℕ → ℕ → Covered
 markIndex t g = coverageAt t (markCoverageOffset t) g
 
--- the coverage index of a glyph among the bases or ligatures
+-- the coverage index of a glyph among the bases, ligatures or earlier marks
 unfoldable pub baseIndex : List ℕ → ℕ → Covered
 baseIndex t g = coverageAt t (baseCoverageOffset t) g

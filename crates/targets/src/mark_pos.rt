@@ -1,4 +1,4 @@
-// The MarkBasePos and MarkLigPos subtables, format 1, whose headers are alike.
+// The MarkBasePos, MarkLigPos and MarkMarkPos subtables, format 1, whose headers are alike.
 use ints::big_endian::read_u16;
 use tables::coverage::Covered;
 use tables::header::MOST_BYTES;
@@ -9,7 +9,8 @@ ghost use Prim.Native.Nat.{_<_};
 ghost use Rattle.ints.specs.Limits.{whole16};
 ghost use Rattle.targets.specs.MarkPos.{baseIndex, markIndex, marksGood};
 
-// The fields after POS_FORMAT, by the names of MarkBasePos; MarkLigPos says ligature where it says base.
+// The fields after POS_FORMAT, by the names of MarkBasePos; MarkLigPos says ligature for base, MarkMarkPos mark1 for
+// mark and mark2 for base.
 const MARK_COVERAGE_OFFSET: usize = 2;
 
 pub const BASE_COVERAGE_OFFSET: usize = 4;
@@ -23,7 +24,7 @@ pub const BASE_ARRAY_OFFSET: usize = 10;
 // The bytes of the header.
 const HEADER_BYTES: usize = 12;
 
-// What a mark attaches to.
+// What is searched for.
 pub enum Target {
     Base,
     Ligature,
@@ -56,7 +57,7 @@ pub fn mark_index(t: &[u8], glyph: u32) -> Covered
     tables::coverage::index_at(t, read_u16(t, MARK_COVERAGE_OFFSET) as usize, glyph)
 }
 
-// A glyph's coverage index among the bases or ligatures.
+// A glyph's coverage index among the bases, ligatures or earlier marks.
 pub fn base_index(t: &[u8], glyph: u32) -> Covered
     requires { ⌜ (glyph < whole16) × (marksGood (now t) ≡ true) ⌝ }
     ensures { λ r. ⌜ r ≡ baseIndex (now (t .entry)) glyph ⌝ }

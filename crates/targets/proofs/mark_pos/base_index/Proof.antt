@@ -1,4 +1,4 @@
--- `targets::mark_pos::base_index` meets its contract: in a good subtable the header is whole and the coverage of the bases or ligatures is good. Assumes nothing.
+-- `targets::mark_pos::base_index` meets its contract: in a good subtable the header is whole and the coverage of the bases, ligatures or earlier marks is good. Assumes nothing.
 use mathlib.Core.Path.{ap, _∙_}
 use Prim.Native.Nat.{ℕ}
 use native.Mathlib.Omega.{arith}
