@@ -1,4 +1,4 @@
--- Values worked by hand from the rules: what starting, finishing and the moves refuse, and in what order. They compute. Assumes nothing.
+-- Values worked by hand from the rules: what starting, finishing and the moves refuse, and in what order; refusal 5 of mark to mark. They compute. Assumes nothing.
 use mathlib.Core.Bool.{true, false, not}
 use mathlib.Core.List.{List, [], _∷_, map}
 use mathlib.Core.Path.{_≡_, refl}
@@ -11,9 +11,14 @@ use Rattle.slots.specs.Line.{bytes, slots, slotsN}
 use Rattle.slots.specs.Slot.{noSlot, plainBytes, Slot, slotOf}
 use Rattle.answers.specs.Outcome.{answerTo}
 use Rattle.answers.specs.Said.{Said, done, refused}
+use Rattle.answers.specs.declared.Neighbour.{Neighbour}
+use Rattle.answers.specs.declared.Neighbour.the-variants.{Named, Missing}
+use Rattle.targets.specs.declared.place.Way.the-variants.{Earlier}
+use Rattle.checks.specs.Neighbours.{badPlace}
 use Rattle.checks.specs.Ranges.{some}
 use Rattle.checks.proofs.Examples.{spare, well}
 use Rattle.gpos.specs.Finishing.{finish}
+use Rattle.gpos.specs.MarkPos.{besideOf}
 use Rattle.gpos.specs.Moving.{moveSaid}
 use Rattle.gpos.specs.Starting.{start}
 
@@ -43,6 +48,8 @@ pub record Worked : Type 0 where
   pub moves-back : map (λ (ss : List Slot). back ss (well 24)) ((withCluster 7 noSlot ∷ []) ∷ (noSlot ∷ []) ∷ []) ≡ (refused 10 ∷ done ∷ [])
   -- starting looks at the line alone: refusals 1 and 4
   pub starting : (answerTo start 24 (9 ∷ spare 24) ≡ refused 1) × (answerTo start 28 (spare 28) ≡ refused 4) × (answerTo start 24 (well 24) ≡ done)
+  -- mark to mark's earlier slot: before the index, or missing by a bound of at most the slot count
+  pub earlier : map (λ (n : Neighbour). badPlace 3 1 (besideOf (Earlier n))) (Named 0 ∷ Named 1 ∷ Named 3 ∷ Missing 3 ∷ Missing 4 ∷ []) ≡ (false ∷ true ∷ true ∷ false ∷ true ∷ [])
 
 pub worked : Worked
 unfolding digits natAt pattern signed intAt slotOf plainBytes slotsN slots bytes some isNumberedFrom
@@ -53,4 +60,5 @@ worked = record {
   moves = refl;
   moves-back = refl;
   starting = (refl, refl, refl);
+  earlier = refl;
 }

@@ -3,7 +3,7 @@ use mathlib.Core.Path.{_≡_}
 use mathlib.Core.Bool.{Bool}
 use mathlib.Core.List.{List}
 use Prim.Native.Nat.{ℕ}
-use Rattle.targets.specs.declared.mark_pos.Target.{Target}
+use Rattle.targets.specs.declared.place.Way.{Way}
 use Rattle.answers.specs.declared.Neighbour.{Neighbour}
 use Rattle.answers.specs.Said.{said, saidDone, saidMoved}
 use Rattle.answers.proofs.OutcomeLaws.{one-outcome}
@@ -41,9 +41,9 @@ module _ (z : ℕ) (l t : List ℕ) (direction s u i : ℕ) where
   pub cursive-unique : (previous : Neighbour) (flag : ℕ) → Unique (CursiveCall z l t direction s u i previous flag)
   cursive-unique previous flag r₁ r₂ l₁ l₂ p q = one-outcome said said-same z l _ _ l₁ l₂ r₁ r₂ p q
 
-  -- gpos::mark_base and gpos::mark_ligature, by the target
-  pub mark-unique : (target : Target) → Unique (MarkCall target z l t direction s u i)
-  mark-unique target r₁ r₂ l₁ l₂ p q = one-outcome said said-same z l _ _ l₁ l₂ r₁ r₂ p q
+  -- gpos::mark_base, gpos::mark_ligature and gpos::mark_mark, by the way
+  pub mark-unique : (way : Way) → Unique (MarkCall way z l t direction s u i)
+  mark-unique way r₁ r₂ l₁ l₂ p q = one-outcome said said-same z l _ _ l₁ l₂ r₁ r₂ p q
 
 -- gpos::to_clusters and gpos::from_clusters
 module _ (l t : List ℕ) where

@@ -13,6 +13,7 @@ pub use cursive_pos::cursive;
 pub use finishing::finish;
 pub use mark_pos::mark_base;
 pub use mark_pos::mark_ligature;
+pub use mark_pos::mark_mark;
 pub use moving::from_clusters;
 pub use moving::to_clusters;
 pub use pair_pos::pair;

@@ -56,6 +56,10 @@ module _ (s u : ℕ) (d : Direction) (idx : ℕ) {plan : Plan} {ss : List Slot} 
   pub effect-stop : {hs : List Range} → stop hs ≡ plan → Effect ss (planSaid idx plan) (planned s u d idx plan ss) (declined hs) ss
   effect-stop e = rw (← e) (record { answer = refl; slots-are = refl })
 
+  -- code's hazards are those of the plan
+  pub effect-miss : {hs gs : List Range} → stop hs ≡ plan → gs ≡ hs → Effect ss (planSaid idx plan) (planned s u d idx plan ss) (declined gs) ss
+  effect-miss e is = rw (← e, is) (record { answer = refl; slots-are = refl })
+
   pub effect-endless : endless ≡ plan → Effect ss (planSaid idx plan) (planned s u d idx plan ss) (refused 7) ss
   effect-endless e = rw (← e) (record { answer = refl; slots-are = refl })
 

@@ -19,37 +19,39 @@ use Rattle.tables.specs.Anchor.{Point}
 use Rattle.tables.specs.Spans.{ascends, firstHolding, spanAt, spansFrom}
 use Rattle.answers.specs.Said.{unsafeToBreak, unsafeToConcat, applied, declined, refused}
 use Rattle.targets.specs.MarkPos.{baseIndex, markIndex, marksGood}
+use Rattle.targets.specs.Place.{placeFor}
 use Rattle.targets.specs.Search.{stopsAt}
 use Rattle.targets.specs.Walk.{crossOffset, crossOffsetIn}
 use Rattle.targets.specs.declared.mark_pos.Target.the-variants.{Base, Ligature}
+use Rattle.targets.specs.declared.place.Way.the-variants.{Search}
 use Rattle.targets.proofs.Examples.{glyphAt, loop, part, plain, subtable}
 use Rattle.marks.specs.Attachment.{planned}
 use Rattle.marks.specs.Anchors.{anchorsFor}
 use Rattle.marks.specs.Plan.{endless, fits, hang, Plan, planOf, planSaid, stop}
 
-abbrev point : ℤ → ℤ → Point
+abbrev pub point : ℤ → ℤ → Point
 point x y = record { x = x; y = y }
 
 pub record Worked : Type 0 where
   -- the subtable is good; the mark attaches to slot 0, the base that is seen
-  pub attaches : (marksGood (subtable 4) ≡ true) × (planOf Base Y (subtable 4) plain 2 ≡ hang 0 (point (pos 100) (pos 200)) (point (pos 10) (pos 20)) (pos 30))
+  pub attaches : (marksGood (subtable 4) ≡ true) × (planOf (Search Base) Y (subtable 4) plain 2 ≡ hang 0 (point (pos 100) (pos 200)) (point (pos 10) (pos 20)) (pos 30))
   -- both anchors found, the walk never ends: refusal 7; without the base's anchor a decline, without hazard
-  pub refused-7 : (planOf Base Y (subtable 4) loop 2 ≡ endless) × (planSaid 2 (planOf Base Y (subtable 4) loop 2) ≡ refused 7)
-  pub no-anchor : planSaid 2 (planOf Base Y (subtable 0) loop 2) ≡ declined []
+  pub refused-7 : (planOf (Search Base) Y (subtable 4) loop 2 ≡ endless) × (planSaid 2 (planOf (Search Base) Y (subtable 4) loop 2) ≡ refused 7)
+  pub no-anchor : planSaid 2 (planOf (Search Base) Y (subtable 0) loop 2) ≡ declined []
   -- nothing is seen before the mark, and what was found is not covered: concat
-  pub none-found : planOf Base Y (subtable 4) (glyphAt 5 0 0 0 0 (pos 0) (pos 0) ∷ glyphAt 9 0 0 2 0 (pos 0) (pos 0) ∷ []) 1 ≡ stop (unsafeToConcat 0 2 ∷ [])
-  pub uncovered : planOf Base Y (subtable 4) (part 0 0 ∷ part 0 0 ∷ part 0 0 ∷ []) 2 ≡ stop (unsafeToConcat 1 3 ∷ [])
+  pub none-found : planOf (Search Base) Y (subtable 4) (glyphAt 5 0 0 0 0 (pos 0) (pos 0) ∷ glyphAt 9 0 0 2 0 (pos 0) (pos 0) ∷ []) 1 ≡ stop (unsafeToConcat 0 2 ∷ [])
+  pub uncovered : planOf (Search Base) Y (subtable 4) (part 0 0 ∷ part 0 0 ∷ part 0 0 ∷ []) 2 ≡ stop (unsafeToConcat 1 3 ∷ [])
   -- attached, left to right: the anchors' difference, scaled as one number, and across the line the base's walk
   pub across-y : slot (planned 500 1000 LeftToRight 2 (hang 0 (point (pos 100) (pos 205)) (point (pos 10) (pos 20)) (pos 30)) plain) 2
       ≡ record { glyph = 9; ligatureId = 0; component = 0; flags = 2; attachType = 1; chain = negsuc 1; xAdvance = pos 600; yAdvance = pos 0; xOffset = pos 45; yOffset = pos 123; cluster = 0 }
   -- top to bottom the walk goes to x
   pub across-x : slot (planned 500 1000 TopToBottom 2 (hang 0 (point (pos 100) (pos 205)) (point (pos 10) (pos 20)) (pos 30)) plain) 2
       ≡ record { glyph = 9; ligatureId = 0; component = 0; flags = 2; attachType = 1; chain = negsuc 1; xAdvance = pos 600; yAdvance = pos 0; xOffset = pos 75; yOffset = pos 93; cluster = 0 }
-  pub passes : planSaid 2 (planOf Base Y (subtable 4) plain 2) ≡ applied 3 (unsafeToBreak 0 3 ∷ []) true
+  pub passes : planSaid 2 (planOf (Search Base) Y (subtable 4) plain 2) ≡ applied 3 (unsafeToBreak 0 3 ∷ []) true
 
 pub worked : Worked
 unfolding ascends firstHolding spanAt spansFrom natAt intAt signed clamp32 floorDiv scaled update parent
-    anchorsFor baseIndex markIndex marksGood planOf nearest stopsAt crossOffset crossOffsetIn
+    anchorsFor baseIndex markIndex marksGood placeFor planOf nearest stopsAt crossOffset crossOffsetIn
 worked = record {
   attaches = (refl, refl);
   refused-7 = (refl, refl);
@@ -73,14 +75,14 @@ two = 2 ∷ 6 ∷ 12 ∷ 1 ∷ 100 ∷ 0 ∷ 1 ∷ 200 ∷ 0 ∷ []
 
 -- the plan for a mark of id 4 and this component after a ligature of this id
 abbrev onto : List ℕ → ℕ → ℕ → Plan
-onto t i c = planOf Ligature Y t (glyphAt 5 i 0 1 0 (pos 0) (pos 0) ∷ glyphAt 9 4 c 2 0 (pos 0) (pos 0) ∷ []) 1
+onto t i c = planOf (Search Ligature) Y t (glyphAt 5 i 0 1 0 (pos 0) (pos 0) ∷ glyphAt 9 4 c 2 0 (pos 0) (pos 0) ∷ []) 1
 
 abbrev at : ℕ → Plan
 at x = hang 0 (point (pos x) (pos 0)) (point (pos 10) (pos 20)) (pos 0)
 
 -- the plan for the mark alone, by coverages at these offsets: at 12 that of the mark, at 18 one that is empty
 abbrev alone : ℕ → ℕ → Plan
-alone marks bases = planOf Base Y (words (1 ∷ marks ∷ bases ∷ 1 ∷ 0 ∷ 0 ∷ 1 ∷ 1 ∷ 9 ∷ 1 ∷ 0 ∷ [])) (part 0 0 ∷ []) 0
+alone marks bases = planOf (Search Base) Y (words (1 ∷ marks ∷ bases ∷ 1 ∷ 0 ∷ 0 ∷ 1 ∷ 1 ∷ 9 ∷ 1 ∷ 0 ∷ [])) (part 0 0 ∷ []) 0
 
 pub record Ends : Type 0 where
   -- ids equal and not 0: the mark's own component, at most the last; component 0 or another id: the last
@@ -95,7 +97,7 @@ pub record Ends : Type 0 where
   pub far : map (λ (b : ℕ). fits 40000 b) (7232 ∷ 7231 ∷ []) ≡ (true ∷ false ∷ [])
 
 pub ends : Ends
-unfolding firstHolding spanAt spansFrom natAt intAt signed clamp32 parent anchorsFor baseIndex markIndex planOf nearest stopsAt crossOffset crossOffsetIn
+unfolding firstHolding spanAt spansFrom natAt intAt signed clamp32 parent anchorsFor baseIndex markIndex placeFor planOf nearest stopsAt crossOffset crossOffsetIn
 ends = record {
   components = refl;
   another-id = refl;

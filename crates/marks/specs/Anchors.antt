@@ -1,6 +1,7 @@
 -- The anchors by which a mark attaches: its own, from the MarkArray, and the base's, from a row of anchor offsets with
--- a column for each class of marks (OpenType, GPOS). Assumes nothing.
---   BaseArray: uint16 baseCount, then a row for each base
+-- a column for each class of marks (OpenType, GPOS). The base is whatever the mark goes on: a base, a ligature or an
+-- earlier mark. Assumes nothing.
+--   BaseArray: uint16 baseCount, then a row for each base; a Mark2Array likewise, for each earlier mark
 --   LigatureArray: uint16 ligatureCount, Offset16 ligatureAttachOffsets[ligatureCount]
 --   LigatureAttach: uint16 componentCount, then a row for each component
 use mathlib.Core.List.{List}

@@ -15,7 +15,7 @@ use Rattle.slots.specs.declared.axis.Direction.{Direction}
 use Rattle.slots.specs.declared.fields.Measure.the-variants.{Offset}
 use Rattle.tables.specs.Anchor.{Point, coordinate}
 use Rattle.answers.specs.Outcome.{Call}
-use Rattle.targets.specs.declared.mark_pos.Target.{Target}
+use Rattle.targets.specs.declared.place.Way.{Way}
 use Rattle.marks.specs.Plan.{Plan, stop, endless, hang, fits, planOf, planSaid}
 
 -- how far the base's anchor is from the mark's: the difference is scaled, not each of the two
@@ -38,10 +38,10 @@ planned s u d idx endless ss = ss
 planned s u d idx (hang b base mark walk) ss =
     if fits idx b then update idx (markAttached s u d idx b base mark walk) ss else cleared ss idx
 
--- attachment of the mark in slot i, to what the target says
-abbrev pub markAttachment : (target : Target) (t : List ℕ) (d : Direction) (s u i : ℕ) → Call
-markAttachment target t d s u i =
+-- attachment of the mark in slot i, to what is searched for or to the earlier mark that is named
+abbrev pub markAttachment : (way : Way) (t : List ℕ) (d : Direction) (s u i : ℕ) → Call
+markAttachment way t d s u i =
     record {
-      says = λ ss. planSaid i (planOf target (cross d) t ss i);
-      leaves = λ ss. planned s u d i (planOf target (cross d) t ss i) ss;
+      says = λ ss. planSaid i (planOf way (cross d) t ss i);
+      leaves = λ ss. planned s u d i (planOf way (cross d) t ss i) ss;
     }

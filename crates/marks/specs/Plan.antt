@@ -3,9 +3,8 @@ use mathlib.Core.Bool.{Bool}
 use mathlib.Core.List.{List, [], _∷_}
 use mathlib.Core.Option.{Option, some, none}
 use Prim.Native.Nat.{ℕ, _+_, _-_}
-use lib.Dec.{eqb, leb}
+use lib.Dec.{leb}
 use lib.IntN.{ℤ}
-use Rattle.ints.specs.Choice.{if_then_else_}
 use Rattle.slots.specs.Slot.{Slot}
 use Rattle.slots.specs.Line.{slot}
 use Rattle.slots.specs.Parent.{chainLimit}
@@ -14,10 +13,13 @@ use Rattle.tables.specs.Anchor.{Point}
 use Rattle.tables.specs.declared.coverage.Covered.{Covered}
 use Rattle.tables.specs.declared.coverage.Covered.the-variants.{Index, Not}
 use Rattle.answers.specs.Said.{Range, unsafeToBreak, unsafeToConcat, Said, applied, declined, refused}
-use Rattle.targets.specs.MarkPos.{baseCoverageOffset, baseIndex, markIndex}
-use Rattle.targets.specs.Search.{foundFor}
+use Rattle.targets.specs.MarkPos.{baseIndex, markIndex}
+use Rattle.targets.specs.Place.{missed, placeFor}
 use Rattle.targets.specs.Walk.{crossOffset}
 use Rattle.targets.specs.declared.mark_pos.Target.{Target}
+use Rattle.targets.specs.declared.mark_pos.Target.the-variants.{Base}
+use Rattle.targets.specs.declared.place.Way.{Way}
+use Rattle.targets.specs.declared.place.Way.the-variants.{Search, Earlier}
 use Rattle.marks.specs.Anchors.{Anchors, both, missing, empty, anchorsFor}
 
 -- nothing, with the hazard to report, if any; refused, since the walk never ends; or the mark is to hang on slot b, by
@@ -38,25 +40,37 @@ afterAnchors a ss idx b (both base mark) = afterWalk b base mark (crossOffset a 
 afterAnchors a ss idx b missing = stop []
 afterAnchors a ss idx b empty = stop (unsafeToConcat b (idx + 1) ∷ [])
 
--- once slot b is found: uncovered, another glyph in its place might be covered
-abbrev pub afterFound : Target → Axis → List ℕ → List Slot → ℕ → ℕ → ℕ → Covered → Plan
-afterFound target a t ss idx m b (Index k) = afterAnchors a ss idx b (anchorsFor target t k m (slot ss idx) (slot ss b))
-afterFound target a t ss idx m b Not = stop (unsafeToConcat b (idx + 1) ∷ [])
+-- the anchors of an earlier mark, in a Mark2Array, are laid out as those of a base
+abbrev pub laidOut : Way → Target
+laidOut (Search target) = target
+laidOut (Earlier earlier) = Base
 
--- once the search has ended: none found, a glyph before the line might have been
-abbrev pub afterSearch : Target → Axis → List ℕ → List Slot → ℕ → ℕ → Option ℕ → Plan
-afterSearch target a t ss idx m (some b) = afterFound target a t ss idx m b (baseIndex t (slot ss b .glyph))
-afterSearch target a t ss idx m none = stop (unsafeToConcat 0 (idx + 1) ∷ [])
+-- what is reported of slot b where it isn't covered: in place of what was searched for another glyph might be covered;
+-- of an earlier mark, which was named, nothing
+abbrev pub uncovered : Way → ℕ → ℕ → List Range
+uncovered (Search target) idx b = unsafeToConcat b (idx + 1) ∷ []
+uncovered (Earlier earlier) idx b = []
 
--- once the mark is known to be covered: without a base coverage nothing is searched
-abbrev pub afterCovered : Target → Axis → List ℕ → List Slot → ℕ → Covered → Plan
-afterCovered target a t ss idx (Index m) =
-    if eqb (baseCoverageOffset t) 0 then stop [] else afterSearch target a t ss idx m (foundFor target t ss idx)
-afterCovered target a t ss idx Not = stop []
+-- once slot b is known: it is covered, or not
+abbrev pub afterFound : Way → Axis → List ℕ → List Slot → ℕ → ℕ → ℕ → Covered → Plan
+afterFound way a t ss idx m b (Index k) =
+    afterAnchors a ss idx b (anchorsFor (laidOut way) t k m (slot ss idx) (slot ss b))
+afterFound way a t ss idx m b Not = stop (uncovered way idx b)
 
--- the plan for the mark in slot idx; a is the cross axis
-unfoldable pub planOf : Target → Axis → List ℕ → List Slot → ℕ → Plan
-planOf target a t ss idx = afterCovered target a t ss idx (markIndex t (slot ss idx .glyph))
+-- once the place is known: a slot, or none
+abbrev pub afterPlace : Way → Axis → List ℕ → List Slot → ℕ → ℕ → Option ℕ → Plan
+afterPlace way a t ss idx m (some b) = afterFound way a t ss idx m b (baseIndex t (slot ss b .glyph))
+afterPlace way a t ss idx m none = stop (missed way t idx)
+
+-- by the mark's own coverage
+abbrev pub afterCovered : Way → Axis → List ℕ → List Slot → ℕ → Covered → Plan
+afterCovered way a t ss idx (Index m) = afterPlace way a t ss idx m (placeFor way t ss idx)
+afterCovered way a t ss idx Not = stop []
+
+-- The plan for the mark in slot idx, by its own coverage, the slot that it goes on (of an earlier mark: mark bit, then
+-- ids and components), that slot's coverage, the anchors, the walk, in this order; a is the cross axis.
+unfoldable pub planOf : Way → Axis → List ℕ → List Slot → ℕ → Plan
+planOf way a t ss idx = afterCovered way a t ss idx (markIndex t (slot ss idx .glyph))
 
 -- the distance from slot idx back to slot b fits a chain; in a line of 1,024 slots every distance does
 abbrev pub fits : ℕ → ℕ → Bool

@@ -4,6 +4,7 @@ use crate::plan::plan_of;
 use answers::Answer;
 use answers::Hazards;
 use answers::Refusal;
+use answers::miss;
 use answers::unsafe_to_break;
 use ints::big_endian::Signed;
 use ints::saturating::difference;
@@ -18,7 +19,7 @@ use slots::layout::MARK_TYPE;
 use slots::shape::Shape;
 use tables::anchor::Point;
 use tables::anchor::coordinate_on;
-use targets::mark_pos::Target;
+use targets::place::Way;
 ghost use mathlib.Core.Bool.{true};
 ghost use mathlib.Core.List.{[], _∷_};
 ghost use mathlib.Core.Path.{_≡_};
@@ -31,6 +32,7 @@ ghost use Rattle.tables.specs.code.Meant.{Near16, pointOf};
 ghost use Rattle.answers.specs.code.Effect.{MadeOn};
 ghost use Rattle.answers.specs.Said.{applied, unsafeToBreak, said};
 ghost use Rattle.targets.specs.MarkPos.{marksGood};
+ghost use Rattle.targets.specs.code.Meant.{WayBefore};
 ghost use Rattle.marks.specs.Attachment.{markAttachment, anchorDelta, markAttached};
 ghost use Rattle.marks.specs.code.Meant.{InReach};
 
@@ -44,19 +46,24 @@ pub fn apply(
     line: &mut [u8],
     shape: Shape,
     t: &[u8],
-    target: Target,
+    way: Way,
     d: Direction,
     s: u32,
     u: u32,
     idx: usize,
 ) -> Answer
-    requires { ⌜ Inside shape (now line) idx × InScale s u × (marksGood (now t) ≡ true) ⌝ }
-    ensures { λ r. ⌜ MadeOn (markAttachment target (now (t .entry)) d s u idx)
+    requires { ⌜ Inside shape (now line) idx × WayBefore idx way × InScale s u × (marksGood (now t) ≡ true) ⌝ }
+    ensures { λ r. ⌜ MadeOn (markAttachment way (now (t .entry)) d s u idx)
         (slots shape (now (line .entry))) (said r) (slots shape (now (line .exit))) ⌝ }
 {
-    let plan = plan_of(line, shape, t, target, slots::axis::cross_axis(d), idx);
+    let plan = plan_of(line, shape, t, way, slots::axis::cross_axis(d), idx);
     match plan {
-        Plan::Stop(hazards) => Answer::Declined { hazards: hazards },
+        Plan::Stop => Answer::Declined {
+            hazards: Hazards::None,
+        },
+        Plan::Miss(f) => Answer::Declined {
+            hazards: miss(f, idx + 1),
+        },
         Plan::Endless => Answer::Refused(Refusal::Endless),
         Plan::Hang {
             base_slot,

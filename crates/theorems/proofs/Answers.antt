@@ -17,7 +17,7 @@ use Rattle.cursive.specs.Attachment.{cursiveAttachment}
 use Rattle.cursive.specs.CursivePos.{cursiveGood}
 use Rattle.cursive.proofs.SaidLaws.{says as cursive-says}
 use Rattle.targets.specs.MarkPos.{marksGood}
-use Rattle.targets.specs.declared.mark_pos.Target.{Target}
+use Rattle.targets.specs.declared.place.Way.{Way}
 use Rattle.marks.specs.Attachment.{markAttachment}
 use Rattle.marks.proofs.SaidLaws.{says as mark-says}
 use Rattle.answers.specs.theorems.Hazards.{FewHazards}
@@ -30,7 +30,7 @@ use Rattle.checks.specs.declared.neighbours.Beside.the-variants.{Nothing, Secon
 use Rattle.gpos.specs.SinglePos.{SingleCall}
 use Rattle.gpos.specs.PairPos.{PairCall}
 use Rattle.gpos.specs.CursivePos.{CursiveCall}
-use Rattle.gpos.specs.MarkPos.{MarkCall}
+use Rattle.gpos.specs.MarkPos.{besideOf, MarkCall}
 use Rattle.gpos.proofs.ApplyingLaws.{of-made, Parts}
 use Rattle.theorems.specs.Next.{Advances}
 
@@ -79,7 +79,7 @@ module _ (z : ℕ) (l t : List ℕ) (direction s u i : ℕ) (r : Answer) (l′ :
       of-made (parts (Previous previous) (cursiveGood t) (λ d. cursiveAttachment t d s u i previous flag)) z l Fair refuses
       (λ in-place. cursive-says Fair t ss i declines misses (λ h. attaches (in-place .0) h true) previous) o
 
-  pub mark-fair : (target : Target) → MarkCall target z l t direction s u i r l′ → Fair (said r)
-  mark-fair target o =
-      of-made (parts Nothing (marksGood t) (λ d. markAttachment target t d s u i)) z l Fair refuses
-      (λ in-place. mark-says Fair target (cross d) t ss i (refuses 7) declines misses (attaches (in-place .0))) o
+  pub mark-fair : (way : Way) → MarkCall way z l t direction s u i r l′ → Fair (said r)
+  mark-fair way o =
+      of-made (parts (besideOf way) (marksGood t) (λ d. markAttachment way t d s u i)) z l Fair refuses
+      (λ in-place. mark-says Fair way (cross d) t ss i (refuses 7) declines misses (attaches (in-place .0))) o

@@ -25,7 +25,7 @@ use Rattle.theorems.proofs.PairClusters as pair
 use Rattle.cursive.specs.CursivePos.{cursiveGood, planOf as cursivePlan, planSaid as cursiveSaid}
 use Rattle.theorems.proofs.CursiveClusters as cursive
 use Rattle.targets.specs.MarkPos.{marksGood}
-use Rattle.targets.specs.declared.mark_pos.Target.{Target}
+use Rattle.targets.specs.declared.place.Way.{Way}
 use Rattle.marks.specs.Plan.{planOf as markPlan, planSaid as markSaid}
 use Rattle.theorems.proofs.MarkClusters as marks
 use Rattle.theorems.proofs.FinishClusters as finish
@@ -33,7 +33,7 @@ use Rattle.finish_rules.proofs.SettledLaws.{finished-count}
 use Rattle.answers.specs.Outcome.{answerTo, Call, lineAfter, Made}
 use Rattle.answers.specs.Said.{Said, applied, declined, done, refused, unless}
 use Rattle.answers.specs.declared.Neighbour.{Neighbour}
-use Rattle.checks.specs.Neighbours.{badPrevious, badSecond}
+use Rattle.checks.specs.Neighbours.{badPlace, badPrevious, badSecond}
 use Rattle.checks.specs.Arguments.{applyingTests}
 use Rattle.theorems.specs.Clusters.{Apart, Same}
 use Rattle.gpos.specs.Starting.{start}
@@ -41,7 +41,7 @@ use Rattle.gpos.specs.Finishing.{finish as finishCall}
 use Rattle.gpos.specs.SinglePos.{single as singleCall}
 use Rattle.gpos.specs.PairPos.{pair as pairCall}
 use Rattle.gpos.specs.CursivePos.{cursive as cursiveCall}
-use Rattle.gpos.specs.MarkPos.{mark as markCall}
+use Rattle.gpos.specs.MarkPos.{besideOf, mark as markCall}
 
 -- ---- each call
 pub start-apart : Apart start
@@ -92,14 +92,14 @@ module _ (t : List ℕ) (direction s u i : ℕ) where
         as-many = cursive.leaves-length s u d flag i t previous;
       }
 
-  pub mark-apart : (target : Target) → Apart (markCall target t direction s u i)
-  mark-apart target =
+  pub mark-apart : (way : Way) → Apart (markCall way t direction s u i)
+  mark-apart way =
       record {
         blind =
-            tests-blind direction s u (λ n. leb n i) (not (marksGood t)) (λ ss. markSaid i (markPlan target (cross d) t ss i))
-            (λ cs ss. ap (markSaid i) (marks.plan-blind target (cross d) t i cs ss));
-        keeps = marks.leaves-keeps s u d i target t;
-        as-many = marks.leaves-length s u d i target t;
+            tests-blind direction s u (λ n. badPlace n i (besideOf way)) (not (marksGood t)) (λ ss. markSaid i (markPlan way (cross d) t ss i))
+            (λ cs ss. ap (markSaid i) (marks.plan-blind way (cross d) t i cs ss));
+        keeps = marks.leaves-keeps s u d i way t;
+        as-many = marks.leaves-length s u d i way t;
       }
 
 -- ---- what follows, for any of them

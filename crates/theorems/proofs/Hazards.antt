@@ -1,7 +1,7 @@
 -- A call that is applied reports at most two hazards, one that declines at most one, one that refuses none. Assumes nothing.
 use mathlib.Core.List.{List}
 use Prim.Native.Nat.{ℕ}
-use Rattle.targets.specs.declared.mark_pos.Target.{Target}
+use Rattle.targets.specs.declared.place.Way.{Way}
 use Rattle.answers.specs.theorems.Hazards.{FewHazards}
 use Rattle.answers.specs.Said.{said}
 use Rattle.answers.specs.declared.Answer.{Answer}
@@ -22,5 +22,5 @@ module _ (z : ℕ) (l t : List ℕ) (direction s u i : ℕ) (r : Answer) (l′ :
   pub cursive-hazards : (previous : Neighbour) (flag : ℕ) → CursiveCall z l t direction s u i previous flag r l′ → FewHazards (said r)
   cursive-hazards previous flag o = cursive-fair z l t direction s u i r l′ previous flag o .0
 
-  pub mark-hazards : (target : Target) → MarkCall target z l t direction s u i r l′ → FewHazards (said r)
-  mark-hazards target o = mark-fair z l t direction s u i r l′ target o .0
+  pub mark-hazards : (way : Way) → MarkCall way z l t direction s u i r l′ → FewHazards (said r)
+  mark-hazards way o = mark-fair z l t direction s u i r l′ way o .0

@@ -1,6 +1,6 @@
 -- Mark attachment neither looks at clusters nor writes them. Assumes nothing.
 use mathlib.Core.Bool.{Bool, true, false, not, _&&_, _||_}
-use mathlib.Core.List.{List, []}
+use mathlib.Core.List.{List}
 use mathlib.Core.Option.{Option, some, none}
 use mathlib.Core.Path.{_≡_, refl, ap, ap₂, _∙_}
 use Prim.Native.Nat.{ℕ, zero, suc, _-_}
@@ -30,14 +30,19 @@ use Rattle.tables.specs.declared.anchor_rows.Rows.{Rows}
 use Rattle.tables.specs.declared.anchor_rows.Rows.the-variants.{Of, Absent}
 use Rattle.tables.specs.declared.coverage.Covered.{Covered}
 use Rattle.tables.specs.declared.coverage.Covered.the-variants.{Index, Not}
+use Rattle.answers.specs.declared.Neighbour.the-variants.{Named, Missing}
 use Rattle.targets.specs.MarkPos.{baseCoverageOffset, baseIndex, markClassCount, markIndex}
+use Rattle.targets.specs.Place.{placeFor}
 use Rattle.targets.specs.Search.{foundFor, goesOn, isCovered, isFirst, stopsAt}
+use Rattle.targets.specs.Together.{stacks}
 use Rattle.targets.specs.Walk.{climb, crossOffset, crossOffsetIn}
 use Rattle.targets.specs.declared.mark_pos.Target.{Target}
 use Rattle.targets.specs.declared.mark_pos.Target.the-variants.{Base, Ligature}
+use Rattle.targets.specs.declared.place.Way.{Way}
+use Rattle.targets.specs.declared.place.Way.the-variants.{Search, Earlier}
 use Rattle.marks.specs.Anchors.{Anchors, both, missing, empty, anchorsFor, rowTable, afterRows}
 use Rattle.ints.specs.Tally.{nearest}
-use Rattle.marks.specs.Plan.{Plan, stop, endless, hang, fits, planOf, afterAnchors, afterCovered, afterFound, afterSearch, afterWalk}
+use Rattle.marks.specs.Plan.{Plan, stop, endless, hang, fits, laidOut, planOf, afterAnchors, afterCovered, afterFound, afterPlace, afterWalk}
 use Rattle.marks.specs.Attachment.{anchorDelta, markAttached, planned}
 
 -- ---- the search
@@ -100,35 +105,40 @@ anchors-blind target t k m i b cs ss =
     ∙ rows-blind target t k m (slot (withClusters cs ss) i .cluster) (slot (withClusters cs ss) b .cluster) (slot ss i) (slot ss b)
     (rowsOf (rowTable target t k) (markClassCount t))
 
+-- ---- the slot that a mark goes on
+place-blind : (way : Way) (t : List ℕ) (i : ℕ) → Blind (λ ss. placeFor way t ss i)
+unfolding placeFor stacks
+place-blind (Search target) t i cs ss = ap (λ (p : Option ℕ). if eqb (baseCoverageOffset t) 0 then none else p) (found-blind target t i cs ss)
+place-blind (Earlier (Named b)) t i cs ss = ap₂ (λ (mark earlier : Slot). if stacks mark earlier then some b else none) (slot-with i cs ss) (slot-with b cs ss)
+place-blind (Earlier (Missing f)) t i cs ss = refl
+
 -- ---- the plan
-module _ (target : Target) (a : Axis) (t : List ℕ) (i : ℕ) where
+module _ (way : Way) (a : Axis) (t : List ℕ) (i : ℕ) where
   -- once the anchors are known
   with-anchors : (b : ℕ) (x : Anchors) → Blind (λ ss. afterAnchors a ss i b x)
   with-anchors b (both base mark) = blind-as (cross-blind a b) (afterWalk b base mark)
   with-anchors b missing = λ cs ss. refl
   with-anchors b empty = λ cs ss. refl
 
-  -- once slot b is found
-  with-found : (m b : ℕ) (c : Covered) → Blind (λ ss. afterFound target a t ss i m b c)
-  with-found m b (Index k) = blind-by (anchors-blind target t k m i b) (λ x ss. afterAnchors a ss i b x) (with-anchors b)
+  -- once slot b is known
+  with-found : (m b : ℕ) (c : Covered) → Blind (λ ss. afterFound way a t ss i m b c)
+  with-found m b (Index k) = blind-by (anchors-blind (laidOut way) t k m i b) (λ x ss. afterAnchors a ss i b x) (with-anchors b)
   with-found m b Not = λ cs ss. refl
 
-  -- once the search has ended
-  with-search : (m : ℕ) (o : Option ℕ) → Blind (λ ss. afterSearch target a t ss i m o)
-  with-search m (some b) = blind-by (blind-as (glyph-blind b) (baseIndex t)) (λ c ss. afterFound target a t ss i m b c) (with-found m b)
-  with-search m none = λ cs ss. refl
+  -- once the place is known
+  with-place : (m : ℕ) (p : Option ℕ) → Blind (λ ss. afterPlace way a t ss i m p)
+  with-place m (some b) = blind-by (blind-as (glyph-blind b) (baseIndex t)) (λ c ss. afterFound way a t ss i m b c) (with-found m b)
+  with-place m none = λ cs ss. refl
 
-  -- once the mark is known to be covered
-  with-covered : (c : Covered) → Blind (λ ss. afterCovered target a t ss i c)
-  with-covered (Index m) cs ss =
-      ap (λ (p : Plan). if eqb (baseCoverageOffset t) 0 then stop [] else p)
-      (blind-by (found-blind target t i) (λ o ss. afterSearch target a t ss i m o) (with-search m) cs ss)
-  with-covered Not cs ss = refl
+  -- by the mark's own coverage
+  with-covered : (c : Covered) → Blind (λ ss. afterCovered way a t ss i c)
+  with-covered (Index m) = blind-by (place-blind way t i) (λ p ss. afterPlace way a t ss i m p) (with-place m)
+  with-covered Not = λ cs ss. refl
 
   -- the whole
-  pub plan-blind : Blind (λ ss. planOf target a t ss i)
+  pub plan-blind : Blind (λ ss. planOf way a t ss i)
   unfolding planOf
-  plan-blind = blind-by (blind-as (glyph-blind i) (markIndex t)) (λ c ss. afterCovered target a t ss i c) with-covered
+  plan-blind = blind-by (blind-as (glyph-blind i) (markIndex t)) (λ c ss. afterCovered way a t ss i c) with-covered
 
 -- ---- the slots that are left
 module _ (s u : ℕ) (d : Direction) (i : ℕ) where
@@ -159,11 +169,11 @@ module _ (s u : ℕ) (d : Direction) (i : ℕ) where
       go true = length-update i (markAttached s u d i b base mark walk) ss
       go false = cleared-count ss i
 
-module _ (s u : ℕ) (d : Direction) (i : ℕ) (target : Target) (t : List ℕ) where
+module _ (s u : ℕ) (d : Direction) (i : ℕ) (way : Way) (t : List ℕ) where
   -- by the plan of a mark
-  pub leaves-keeps : KeepsClusters (λ ss. planned s u d i (planOf target (cross d) t ss i) ss)
-  leaves-keeps = keeps-by (plan-blind target (cross d) t i) (planned s u d i) (planned-keeps s u d i)
+  pub leaves-keeps : KeepsClusters (λ ss. planned s u d i (planOf way (cross d) t ss i) ss)
+  leaves-keeps = keeps-by (plan-blind way (cross d) t i) (planned s u d i) (planned-keeps s u d i)
 
   -- they are as many
-  pub leaves-length : (ss : List Slot) → length (planned s u d i (planOf target (cross d) t ss i) ss) ≡ length ss
-  leaves-length ss = planned-length s u d i (planOf target (cross d) t ss i) ss
+  pub leaves-length : (ss : List Slot) → length (planned s u d i (planOf way (cross d) t ss i) ss) ≡ length ss
+  leaves-length ss = planned-length s u d i (planOf way (cross d) t ss i) ss

@@ -3,7 +3,7 @@ use mathlib.Core.List.{List}
 use Prim.Native.Nat.{ℕ}
 use lib.ListN.{length}
 use Rattle.slots.specs.Line.{lineSlots}
-use Rattle.targets.specs.declared.mark_pos.Target.{Target}
+use Rattle.targets.specs.declared.place.Way.{Way}
 use Rattle.answers.specs.Said.{said}
 use Rattle.answers.specs.declared.Answer.{Answer}
 use Rattle.answers.specs.declared.Neighbour.{Neighbour}
@@ -24,5 +24,5 @@ module _ (z : ℕ) (l t : List ℕ) (direction s u i : ℕ) (r : Answer) (l′ :
   pub cursive-next : (previous : Neighbour) (flag : ℕ) → CursiveCall z l t direction s u i previous flag r l′ → Advances i (length (lineSlots z l)) (said r)
   cursive-next previous flag o = cursive-fair z l t direction s u i r l′ previous flag o .1
 
-  pub mark-next : (target : Target) → MarkCall target z l t direction s u i r l′ → Advances i (length (lineSlots z l)) (said r)
-  mark-next target o = mark-fair z l t direction s u i r l′ target o .1
+  pub mark-next : (way : Way) → MarkCall way z l t direction s u i r l′ → Advances i (length (lineSlots z l)) (said r)
+  mark-next way o = mark-fair z l t direction s u i r l′ way o .1

@@ -32,9 +32,11 @@ use Rattle.cursive.specs.Attachment.{joinedAt, separatedBy, tied}
 use Rattle.cursive.specs.CursivePos.{planOf as cursivePlan}
 use Rattle.targets.specs.Component.{componentIndex}
 use Rattle.targets.specs.MarkPos.{baseIndex, markIndex, marksGood}
+use Rattle.targets.specs.Place.{placeFor as markPlace}
 use Rattle.targets.specs.Search.{stopsAt}
 use Rattle.targets.specs.Walk.{crossOffset, crossOffsetIn}
 use Rattle.targets.specs.declared.mark_pos.Target.the-variants.{Ligature}
+use Rattle.targets.specs.declared.place.Way.the-variants.{Search}
 use Rattle.marks.specs.Anchors.{anchorsFor}
 use Rattle.marks.specs.Plan.{planOf as markPlan}
 use Rattle.finish_rules.specs.Finish.{finished, takenIn, settled, settledUp, shifted}
@@ -141,7 +143,7 @@ cursive z ss p i flag = result (cursiveCall cursiveTable 0 1000 1000 i (Named p)
 
 -- attachment of a mark of component c in slot 1 to a ligature in slot 0, direction 0
 abbrev markLigature : ℕ → ℕ → Result
-markLigature z c = result (markCall Ligature ligatureTable 0 1000 1000 1) z (bytes z (ligature ∷ mark c ∷ []))
+markLigature z c = result (markCall (Search Ligature) ligatureTable 0 1000 1000 1) z (bytes z (ligature ∷ mark c ∷ []))
 
 -- finishing with the flag, direction 0, by the limit
 abbrev finish : ℕ → ℕ → List Slot → Result
@@ -192,5 +194,5 @@ pub worked-sums : (map (λ (x : Row). x .found) (table 24) ≡ map (λ (x : Row)
 unfolding natAt digits pattern intAt signed clamp32 floorDiv scaled stepwise bit tally some bytes plainBytes slotOf slots slotsN update parent
     ascends firstHolding spanAt spansFrom setBelow effectOf fieldsWork valued withFields recordWorked headerGood placeFor singleGood
     classesGood pairGood probeIn pairPlan joinedAt separatedBy tied attachedCount cursivePlan reversed reversedIn turned
-    anchorsFor baseIndex markIndex marksGood markPlan nearest stopsAt crossOffset crossOffsetIn cleared finished takenIn settled settledUp shifted
+    anchorsFor baseIndex markIndex marksGood markPlace markPlan nearest stopsAt crossOffset crossOffsetIn cleared finished takenIn settled settledUp shifted
 worked-sums = (refl, refl)

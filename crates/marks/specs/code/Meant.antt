@@ -1,15 +1,16 @@
 -- What code's values stand for, and the bounds that code leans on. Assumes nothing.
-use Prim.Native.Nat.{ℕ, _-_, _≤_, _<_}
+use mathlib.Core.List.{[], _∷_}
+use Prim.Native.Nat.{ℕ, _+_, _-_, _≤_, _<_}
 use Rattle.ints.specs.code.Signed.{val}
 use Rattle.slots.specs.Parent.{chainLimit}
 use Rattle.tables.specs.code.Meant.{Near16, pointOf}
-use Rattle.answers.specs.Said.{ranges}
+use Rattle.answers.specs.Said.{unsafeToConcat}
 use Rattle.marks.specs.Anchors.{Anchors, both, missing, empty}
 use Rattle.marks.specs.Plan.{Plan, stop, endless, hang}
 use Rattle.marks.specs.declared.anchors.Anchors.{Anchors as CodeAnchors}
 use Rattle.marks.specs.declared.anchors.Anchors.the-variants.{Both, Missing, Empty}
 use Rattle.marks.specs.declared.plan.Plan.{Plan as CodePlan}
-use Rattle.marks.specs.declared.plan.Plan.the-variants.{Stop, Endless, Hang}
+use Rattle.marks.specs.declared.plan.Plan.the-variants.{Stop, Miss, Endless, Hang}
 
 -- the anchors found
 abbrev pub anchorsOf : CodeAnchors → Anchors
@@ -23,15 +24,17 @@ AnchorsNear (Both base mark) = Near16 base × Near16 mark
 AnchorsNear Missing = Unit {0}
 AnchorsNear Empty = Unit {0}
 
--- the plan that code's plan stands for
-abbrev pub meant : CodePlan → Plan
-meant (Stop hs) = stop (ranges hs)
-meant Endless = endless
-meant (Hang b base mark walk) = hang b (pointOf base) (pointOf mark) (val walk)
+-- the plan for slot idx that code's plan stands for
+abbrev pub meant : ℕ → CodePlan → Plan
+meant idx Stop = stop []
+meant idx (Miss f) = stop (unsafeToConcat f (idx + 1) ∷ [])
+meant idx Endless = endless
+meant idx (Hang b base mark walk) = hang b (pointOf base) (pointOf mark) (val walk)
 
 -- the slot to hang on is before slot idx, and the anchors are numbers of 16 bits
 abbrev pub Sound : ℕ → CodePlan → Type 0
-Sound idx (Stop hs) = Unit {0}
+Sound idx Stop = Unit {0}
+Sound idx (Miss f) = Unit {0}
 Sound idx Endless = Unit {0}
 Sound idx (Hang b base mark walk) = (b < idx) × (Near16 base × Near16 mark)
 

@@ -4,7 +4,7 @@ use denote.Ref.{now}
 use Rattle.slots.specs.Line.{slots}
 use Rattle.tables.specs.code.Meant.{pointOf}
 use Rattle.marks.specs.code.Meant.{anchorsOf, AnchorsNear}
-use Rattle.marks.specs.Plan.{stop, afterAnchors, afterWalk}
+use Rattle.marks.specs.Plan.{afterAnchors, afterWalk}
 use Rattle.marks.specs.declared.anchors.Anchors.{Anchors}
 use borrow.Author.Needs.{needs}
 use Rattle.marks.proofs.plan.after_anchors.Statement.{statement}
@@ -28,12 +28,6 @@ enum-told c = search needs
 enum-told-2 : tie.Need-enum-told-2
 enum-told-2 c = search needs
 
-add-miss : tie.Need-add-miss
-add-miss c = search needs
-
-miss-requires : tie.Need-miss-requires
-miss-requires c κs = search needs
-
 returns : tie.Need-returns
 returns c =
     let k = c .before .before .before in
@@ -52,11 +46,8 @@ returns-2 c =
 
 returns-3 : tie.Need-returns-3
 returns-3 c =
-    let a = c .before .before .before .before .args in (
-      ap stop (c .miss .ensures)
-          ∙ sym (ap (λ (x : Anchors). afterAnchors (a .a) (slots (a .shape) (now (a .line))) (a .idx) (a .b) (anchorsOf x)) (c .before .enum-told2 .given .1)),
-      tt,
-    )
+    let a = c .before .before .before .args in
+    (sym (ap (λ (x : Anchors). afterAnchors (a .a) (slots (a .shape) (now (a .line))) (a .idx) (a .b) (anchorsOf x)) (c .enum-told2 .given .1)), tt)
 
 pub after-anchors-spec : {M : Type 1} → statement M
 after-anchors-spec =
@@ -67,8 +58,6 @@ after-anchors-spec =
     after-walk-requires
     enum-told
     enum-told-2
-    add-miss
-    miss-requires
     returns
     returns-2
     returns-3)
