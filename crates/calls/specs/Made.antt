@@ -15,6 +15,7 @@ use Rattle.gpos.specs.PairPos.{PairCall}
 use Rattle.gpos.specs.SinglePos.{SingleCall}
 use Rattle.gpos.specs.Starting.{StartCall}
 use Rattle.targets.specs.declared.mark_pos.Target.the-variants.{Base, Ligature}
+use Rattle.targets.specs.declared.place.Way.the-variants.{Search, Earlier}
 use Rattle.gpos_c.specs.Layout.{doneNumber, toC, laid, IsLayoutOf, movedNumber, neighbour, set}
 use Rattle.gpos_c.specs.declared.layout.CAnswer.{CAnswer}
 use Rattle.recorded.specs.Recorded.{afterwards}
@@ -48,14 +49,18 @@ pub data Made (n : Numbers) (l t : List ℕ) (a : CAnswer) (l′ : List ℕ) : T
       (n .flag) x l′) a
       → Made n l t a l′
   markBase : n .kind ≡ 5
-      → IsLayoutOf toC (λ x. MarkCall Base (n .size) l t (n .direction) (n .s) (n .u) (n .index) x l′) a
+      → IsLayoutOf toC (λ x. MarkCall (Search Base) (n .size) l t (n .direction) (n .s) (n .u) (n .index) x l′) a
       → Made n l t a l′
   markLigature : n .kind ≡ 6
-      → IsLayoutOf toC (λ x. MarkCall Ligature (n .size) l t (n .direction) (n .s) (n .u) (n .index) x l′) a
+      → IsLayoutOf toC (λ x. MarkCall (Search Ligature) (n .size) l t (n .direction) (n .s) (n .u) (n .index) x l′) a
       → Made n l t a l′
-  toClusters : n .kind ≡ 7 → {r : ℕ} → a ≡ numbered r
+  markMark : n .kind ≡ 7
+      → IsLayoutOf toC (λ x. MarkCall (Earlier (neighbourOf n)) (n .size) l t (n .direction) (n .s) (n .u) (n .index) x
+      l′) a
+      → Made n l t a l′
+  toClusters : n .kind ≡ 8 → {r : ℕ} → a ≡ numbered r
       → IsLayoutOf movedNumber (λ m. ToClustersCall l t m l′) r → Made n l t a l′
-  fromClusters : n .kind ≡ 8 → {r : ℕ} → a ≡ numbered r
+  fromClusters : n .kind ≡ 9 → {r : ℕ} → a ≡ numbered r
       → IsLayoutOf movedNumber (λ m. FromClustersCall l t m l′) r → Made n l t a l′
 
 -- the call is recorded with an answer that it may give on the line l and the subtable t, with l′ afterwards
@@ -70,7 +75,7 @@ ReplayedIn c line subtable after =
 
 -- the call is of a known kind, and each buffer has room for its part
 pub record Room (n : Numbers) (line subtable after : List ℕ) : Type 0 where
-  pub known : n .kind < 9
+  pub known : n .kind < 10
   pub line-fits : n .line ≤ length line
   pub subtable-fits : n .subtable ≤ length subtable
   pub after-fits : afterwards n (n .line) (n .subtable) ≤ length after

@@ -6,6 +6,7 @@ use gpos_c::gpos_finish;
 use gpos_c::gpos_from_clusters;
 use gpos_c::gpos_mark_base;
 use gpos_c::gpos_mark_ligature;
+use gpos_c::gpos_mark_mark;
 use gpos_c::gpos_pair;
 use gpos_c::gpos_single;
 use gpos_c::gpos_start;
@@ -16,6 +17,7 @@ use recorded::has_target;
 use recorded::kinds::CURSIVE;
 use recorded::kinds::FINISH;
 use recorded::kinds::MARK_BASE;
+use recorded::kinds::MARK_LIGATURE;
 use recorded::kinds::PAIR;
 use recorded::kinds::SINGLE;
 use recorded::kinds::START;
@@ -46,7 +48,7 @@ fn numbered(n: u32) -> CAnswer
 
 // Makes a call on one line.
 fn make_on_line(n: Numbers, line: &mut [u8], subtable: &[u8]) -> CAnswer
-    requires { ⌜ n .kind < 7 ⌝ }
+    requires { ⌜ n .kind < 8 ⌝ }
     ensures { λ r. ⌜ Made n (now (line .entry)) (now (subtable .entry)) r (now (line .exit)) ⌝ }
 {
     let kind = n.kind;
@@ -65,6 +67,17 @@ fn make_on_line(n: Numbers, line: &mut [u8], subtable: &[u8]) -> CAnswer
             n.missing,
             n.neighbour,
         ),
+        _ => make_attaching(n, line, subtable),
+    }
+}
+
+// Makes a call that attaches a glyph to another.
+fn make_attaching(n: Numbers, line: &mut [u8], subtable: &[u8]) -> CAnswer
+    requires { ⌜ (3 < n .kind) × (n .kind < 8) ⌝ }
+    ensures { λ r. ⌜ Made n (now (line .entry)) (now (subtable .entry)) r (now (line .exit)) ⌝ }
+{
+    let kind = n.kind;
+    match kind {
         CURSIVE => gpos_cursive(
             line,
             n.size,
@@ -78,13 +91,24 @@ fn make_on_line(n: Numbers, line: &mut [u8], subtable: &[u8]) -> CAnswer
             n.flag,
         ),
         MARK_BASE => gpos_mark_base(line, n.size, subtable, n.direction, n.s, n.u, n.index),
-        _ => gpos_mark_ligature(line, n.size, subtable, n.direction, n.s, n.u, n.index),
+        MARK_LIGATURE => gpos_mark_ligature(line, n.size, subtable, n.direction, n.s, n.u, n.index),
+        _ => gpos_mark_mark(
+            line,
+            n.size,
+            subtable,
+            n.direction,
+            n.s,
+            n.u,
+            n.index,
+            n.missing,
+            n.neighbour,
+        ),
     }
 }
 
 // Makes a move.
 fn make_move(n: Numbers, line: &[u8], target: &mut [u8]) -> CAnswer
-    requires { ⌜ (6 < n .kind) × (n .kind < 9) ⌝ }
+    requires { ⌜ (7 < n .kind) × (n .kind < 10) ⌝ }
     ensures { λ r. ⌜ Made n (now (line .entry)) (now (target .entry)) r (now (target .exit)) ⌝ }
 {
     if n.kind == TO_CLUSTERS {
@@ -95,7 +119,7 @@ fn make_move(n: Numbers, line: &[u8], target: &mut [u8]) -> CAnswer
 
 // Makes the call of these numbers.
 pub fn make(n: Numbers, line: &mut [u8], subtable: &mut [u8]) -> CAnswer
-    requires { ⌜ n .kind < 9 ⌝ }
+    requires { ⌜ n .kind < 10 ⌝ }
     ensures { λ r. ⌜ Made n (now (line .entry)) (now (subtable .entry)) r
         (afterwards n (now (line .exit)) (now (subtable .exit))) ⌝ }
 {

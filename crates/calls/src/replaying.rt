@@ -37,7 +37,7 @@ pub fn unmade(c: Call) -> Remade
 
 // Makes a recorded call again on its own bytes.
 fn replay_on(c: Call, line: &mut [u8], subtable: &mut [u8], after: &[u8]) -> Remade
-    requires { ⌜ c .numbers .kind < 9 ⌝ }
+    requires { ⌜ c .numbers .kind < 10 ⌝ }
     ensures { λ r. ⌜ Made (c .numbers) (now (line .entry)) (now (subtable .entry)) (r .answer)
         (afterwards (c .numbers) (now (line .exit)) (now (subtable .exit))) ⌝ }
     ensures { λ r. ⌜ (r .alike ≡ true → Replayed c (now (line .entry)) (now (subtable .entry)) (now (after .entry))) ⌝ }

@@ -11,7 +11,7 @@ use Rattle.gpos.specs.SinglePos.{SingleCall}
 use Rattle.gpos.specs.Starting.{StartCall}
 use Rattle.gpos.proofs.Unique.{Unique}
 use Rattle.gpos.proofs.Unique as gpos
-use Rattle.targets.specs.declared.mark_pos.Target.{Target}
+use Rattle.targets.specs.declared.place.Way.{Way}
 use Rattle.gpos_c.specs.Layout.{doneNumber, toC, IsLayoutOf, movedNumber, neighbour, set}
 
 -- where a call leaves one answer and one line, so does its export
@@ -38,8 +38,8 @@ module _ (z : ℕ) (l t : List ℕ) (direction s u i : ℕ) where
   cursive-unique missing previous flag =
       laid-unique toC (CursiveCall z l t direction s u i (neighbour missing previous) flag) (gpos.cursive-unique z l t direction s u i (neighbour missing previous) flag)
 
-  pub mark-unique : (target : Target) → Unique (λ r (l′ : List ℕ). IsLayoutOf toC (λ a. MarkCall target z l t direction s u i a l′) r)
-  mark-unique target = laid-unique toC (MarkCall target z l t direction s u i) (gpos.mark-unique z l t direction s u i target)
+  pub mark-unique : (way : Way) → Unique (λ r (l′ : List ℕ). IsLayoutOf toC (λ a. MarkCall way z l t direction s u i a l′) r)
+  mark-unique way = laid-unique toC (MarkCall way z l t direction s u i) (gpos.mark-unique z l t direction s u i way)
 
 module _ (l t : List ℕ) where
   pub to-clusters-unique : Unique (λ (r : ℕ) (t′ : List ℕ). IsLayoutOf movedNumber (λ m. ToClustersCall l t m t′) r)

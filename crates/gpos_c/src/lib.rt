@@ -18,6 +18,7 @@ ghost use Rattle.gpos.specs.PairPos.{PairCall};
 ghost use Rattle.gpos.specs.SinglePos.{SingleCall};
 ghost use Rattle.gpos.specs.Starting.{StartCall};
 ghost use Rattle.targets.specs.declared.mark_pos.Target.the-variants.{Base, Ligature};
+ghost use Rattle.targets.specs.declared.place.Way.the-variants.{Search, Earlier};
 ghost use Rattle.gpos_c.specs.Layout.{doneNumber, toC, IsLayoutOf, movedNumber, neighbour, set};
 
 #[no_mangle]
@@ -123,7 +124,7 @@ pub extern "C" fn gpos_mark_base(
     u: u32,
     index: usize,
 ) -> CAnswer
-    ensures { λ r. ⌜ IsLayoutOf toC (λ a. MarkCall Base size (now (line .entry))
+    ensures { λ r. ⌜ IsLayoutOf toC (λ a. MarkCall (Search Base) size (now (line .entry))
         (now (subtable .entry)) direction s u index a (now (line .exit))) r ⌝ }
 {
     to_c(gpos::mark_base(line, size, subtable, direction, s, u, index))
@@ -139,10 +140,37 @@ pub extern "C" fn gpos_mark_ligature(
     u: u32,
     index: usize,
 ) -> CAnswer
-    ensures { λ r. ⌜ IsLayoutOf toC (λ a. MarkCall Ligature size (now (line .entry))
+    ensures { λ r. ⌜ IsLayoutOf toC (λ a. MarkCall (Search Ligature) size (now (line .entry))
         (now (subtable .entry)) direction s u index a (now (line .exit))) r ⌝ }
 {
     to_c(gpos::mark_ligature(line, size, subtable, direction, s, u, index))
+}
+
+#[no_mangle]
+pub extern "C" fn gpos_mark_mark(
+    line: &mut [u8],
+    size: usize,
+    subtable: &[u8],
+    direction: u32,
+    s: u32,
+    u: u32,
+    index: usize,
+    missing: u32,
+    earlier: usize,
+) -> CAnswer
+    ensures { λ r. ⌜ IsLayoutOf toC (λ a. MarkCall (Earlier (neighbour missing earlier)) size (now (line .entry))
+        (now (subtable .entry)) direction s u index a (now (line .exit))) r ⌝ }
+{
+    to_c(gpos::mark_mark(
+        line,
+        size,
+        subtable,
+        direction,
+        s,
+        u,
+        index,
+        neighbour_of(missing, earlier),
+    ))
 }
 
 #[no_mangle]

@@ -47,9 +47,9 @@ recordedAnswer head = record {
   hazard = recordedHazard head 18 ∷ recordedHazard head 21 ∷ [];
 }
 
--- is a move recorded? Kinds 7 and 8 are moves, those below are calls on one line
+-- is a move recorded? Kinds 8 and 9 are moves, those below are calls on one line
 abbrev pub hasTarget : Numbers → Bool
-hasTarget n = ltb 6 (n .kind)
+hasTarget n = ltb 7 (n .kind)
 
 -- what a call may write: of a line and of what is in place of the subtable, the latter where it is the target of a move
 abbrev pub afterwards : {A : Type 0} → Numbers → A → A → A

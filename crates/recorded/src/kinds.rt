@@ -13,6 +13,8 @@ pub const MARK_BASE: u32 = 5;
 
 pub const MARK_LIGATURE: u32 = 6;
 
-pub const TO_CLUSTERS: u32 = 7;
+pub const MARK_MARK: u32 = 7;
 
-pub const FROM_CLUSTERS: u32 = 8;
+pub const TO_CLUSTERS: u32 = 8;
+
+pub const FROM_CLUSTERS: u32 = 9;

@@ -1,6 +1,6 @@
 // The head of a recorded call: its numbers and its answer's, 24 of four bytes each. specs/Recorded.antt says where each
 // stands.
-use crate::kinds::MARK_LIGATURE;
+use crate::kinds::MARK_MARK;
 use gpos_c::CAnswer;
 use gpos_c::CHazard;
 ghost use mathlib.Core.Path.{_≡_};
@@ -115,7 +115,7 @@ pub fn call_of(head: &[u8; 96]) -> Call
 pub fn has_target(n: Numbers) -> bool
     ensures { λ r. ⌜ r ≡ hasTarget n ⌝ }
 {
-    MARK_LIGATURE < n.kind
+    MARK_MARK < n.kind
 }
 
 // How many bytes are recorded afterwards: as many as the target has, else as the line.

@@ -22,7 +22,7 @@ returns : tie.Need-returns
 returns c = rw (sym (c .before .before .before .before .before .before .has-target .ensures) ∙ c .before .before .before .before .before .if1 .taken) (c .before .before .make-move .ensures)
 
 make-on-line-requires : tie.Need-make-on-line-requires
-make-on-line-requires c κs = let kind = ltb-false 6 (c .before .before .before .before .before .before .args .n .kind) (sym (c .before .before .before .has-target .ensures) ∙ c .before .before .if1 .left) in omega arith
+make-on-line-requires c κs = let kind = ltb-false 7 (c .before .before .before .before .before .before .args .n .kind) (sym (c .before .before .before .has-target .ensures) ∙ c .before .before .if1 .left) in omega arith
 
 same-length-3 : tie.Need-same-length-3
 same-length-3 c = search needs

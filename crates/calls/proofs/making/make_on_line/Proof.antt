@@ -1,6 +1,6 @@
--- Each kind has a call of its own, made with its numbers. Assumes nothing.
+-- Each kind has a call of its own, made with its numbers; what attaches is made apart. Assumes nothing.
 use native.Mathlib.Omega.{arith}
-use Rattle.calls.specs.Made.{cursive, finish, markBase, markLigature, pair, single, start}
+use Rattle.calls.specs.Made.{finish, pair, single, start}
 use borrow.Author.Needs.{needs}
 use Rattle.calls.proofs.making.make_on_line.Statement.{statement}
 use Rattle.calls.proofs.making.make_on_line.Tie as tie
@@ -23,14 +23,8 @@ gpos-single-requires c κs = search needs
 gpos-pair-requires : tie.Need-gpos-pair-requires
 gpos-pair-requires c κs = search needs
 
-gpos-cursive-requires : tie.Need-gpos-cursive-requires
-gpos-cursive-requires c κs = search needs
-
-gpos-mark-base-requires : tie.Need-gpos-mark-base-requires
-gpos-mark-base-requires c κs = search needs
-
-gpos-mark-ligature-requires : tie.Need-gpos-mark-ligature-requires
-gpos-mark-ligature-requires c κs = search needs
+make-attaching-requires : tie.Need-make-attaching-requires
+make-attaching-requires c κs = (omega arith, omega arith)
 
 same-length : tie.Need-same-length
 same-length c = search needs
@@ -60,19 +54,7 @@ same-length-5 : tie.Need-same-length-5
 same-length-5 c = search needs
 
 returns-5 : tie.Need-returns-5
-returns-5 c = cursive (omega arith) (c .before .before .gpos-cursive .ensures)
-
-same-length-6 : tie.Need-same-length-6
-same-length-6 c = search needs
-
-returns-6 : tie.Need-returns-6
-returns-6 c = markBase (omega arith) (c .before .before .gpos-mark-base .ensures)
-
-same-length-7 : tie.Need-same-length-7
-same-length-7 c = search needs
-
-returns-7 : tie.Need-returns-7
-returns-7 c = markLigature (omega arith) (c .before .before .gpos-mark-ligature .ensures)
+returns-5 c = c .before .before .make-attaching .ensures
 
 pub make-on-line-spec : {M : Type 1} → statement M
 make-on-line-spec =
@@ -84,9 +66,7 @@ make-on-line-spec =
     numbered-requires-2
     gpos-single-requires
     gpos-pair-requires
-    gpos-cursive-requires
-    gpos-mark-base-requires
-    gpos-mark-ligature-requires
+    make-attaching-requires
     same-length
     returns
     same-length-2
@@ -96,8 +76,4 @@ make-on-line-spec =
     same-length-4
     returns-4
     same-length-5
-    returns-5
-    same-length-6
-    returns-6
-    same-length-7
-    returns-7)
+    returns-5)
