@@ -40,12 +40,13 @@ static said pair(const call *c) { return applying(gpos_pair(APPLYING, c->missing
 static said cursive(const call *c) { return applying(gpos_cursive(APPLYING, c->missing, c->neighbour, c->lookup_flag)); }
 static said mark_base(const call *c) { return applying(gpos_mark_base(APPLYING)); }
 static said mark_ligature(const call *c) { return applying(gpos_mark_ligature(APPLYING)); }
+static said mark_mark(const call *c) { return applying(gpos_mark_mark(APPLYING, c->missing, c->neighbour)); }
 
 #define MOVING c->line, c->line_len, c->subtable, c->subtable_len
 static said to_clusters(const call *c) { return done(gpos_to_clusters(MOVING)); }
 static said from_clusters(const call *c) { return done(gpos_from_clusters(MOVING)); }
 
-enum { MOVES = 7, ROWS = 9, KINDS = 255, HEADER = 64, GUARD = 64 };
+enum { MOVES = 8, ROWS = 10, KINDS = 255, HEADER = 64, GUARD = 64 };
 
 /* By kind; a call that the library doesn't have yet is left out. From MOVES on they write to the target and not to the line. */
 static said (*const rows[ROWS])(const call *) = {
@@ -56,8 +57,9 @@ static said (*const rows[ROWS])(const call *) = {
     [4] = cursive,
     [5] = mark_base,
     [6] = mark_ligature,
-    [7] = to_clusters,
-    [8] = from_clusters,
+    [7] = mark_mark,
+    [8] = to_clusters,
+    [9] = from_clusters,
 };
 
 /* Memory between two guards. */

@@ -50,7 +50,7 @@ static int reversed(void) {
     return is(slots - 1, -(int)(slots - 1), 0);
 }
 
-/* SinglePos, PairPos of both formats, MarkBasePos and MarkLigPos for glyph 1, each applied: the other calls. */
+/* SinglePos, PairPos of both formats, MarkBasePos, which is also read as MarkMarkPos, and MarkLigPos for glyph 1, each applied: the other calls. */
 static const uint8_t single[] = {0, 1, 0, 8, 0, 4, 0, 9, 0, 1, 0, 1, 0, 1};
 static const uint8_t pairs[] = {0, 1, 0, 12, 0, 4, 0, 4, 0, 1, 0, 18, 0, 1, 0, 1, 0, 1, 0, 1, 0, 1, 0, 9, 0, 9};
 static const uint8_t classes[] = {0, 2, 0, 20, 0, 4, 0, 4, 0, 0, 0, 0, 0, 1, 0, 1, 0, 9, 0, 9, 0, 1, 0, 1, 0, 1};
@@ -63,6 +63,7 @@ static void pairing(void) { status = gpos_pair(line, size * slots, size, pairs, 
 static void classing(void) { status = gpos_pair(line, size * slots, size, classes, sizeof classes, 0, 1000, 1000, 0, 0, 1).status; }
 static void on_base(void) { status = gpos_mark_base(line, size * slots, size, bases, sizeof bases, 0, 1000, 1000, slots - 1).status; }
 static void on_ligature(void) { status = gpos_mark_ligature(line, size * slots, size, ligatures, sizeof ligatures, 0, 1000, 1000, slots - 1).status; }
+static void on_mark(void) { status = gpos_mark_mark(line, size * slots, size, bases, sizeof bases, 0, 1000, 1000, slots - 1, 0, slots - 2).status; }
 
 static void moving(void) {
     uint32_t refused = size == SHORT ? gpos_to_clusters(line, SHORT * slots, moved, LONG * slots) : gpos_from_clusters(line, LONG * slots, moved, SHORT * slots);
@@ -82,10 +83,10 @@ static size_t used(void (*call)(void)) {
 
 /* The most that the calls take which don't call themselves; 0 if one isn't applied. */
 static size_t others(void) {
-    void (*calls[])(void) = {moving, adjusting, pairing, classing, on_base, on_ligature};
+    void (*calls[])(void) = {moving, adjusting, pairing, classing, on_base, on_ligature, on_mark};
     slots = SLOTS;
     chain_up();
-    line[size * (SLOTS - 2) + 4] = 1; /* seen: the base */
+    line[size * (SLOTS - 2) + 4] = 3; /* seen and a mark: what a mark goes to */
     line[size * (SLOTS - 2) + 7] = 0; /* and not attached */
     size_t most = 0;
     for (size_t k = 0; k < sizeof calls / sizeof *calls; k++) {

@@ -25,6 +25,7 @@ extern "C" {
     fn gpos_cursive(l: *mut u8, n: usize, z: usize, t: *const u8, m: usize, d: u32, s: u32, u: u32, i: usize, none: u32, prev: usize, flag: u32) -> GposAnswer;
     fn gpos_mark_base(l: *mut u8, n: usize, z: usize, t: *const u8, m: usize, d: u32, s: u32, u: u32, i: usize) -> GposAnswer;
     fn gpos_mark_ligature(l: *mut u8, n: usize, z: usize, t: *const u8, m: usize, d: u32, s: u32, u: u32, i: usize) -> GposAnswer;
+    fn gpos_mark_mark(l: *mut u8, n: usize, z: usize, t: *const u8, m: usize, d: u32, s: u32, u: u32, i: usize, none: u32, earlier: usize) -> GposAnswer;
     fn gpos_to_clusters(line: *const u8, len: usize, target: *mut u8, target_len: usize) -> u32;
     fn gpos_from_clusters(line: *const u8, len: usize, target: *mut u8, target_len: usize) -> u32;
 }
@@ -78,6 +79,7 @@ fn library(kind: u8) -> Call {
         CURSIVE => |b, index, near| applying!(gpos_cursive, b, index, 0, near, 0),
         MARK_BASE => |b, index, _| applying!(gpos_mark_base, b, index),
         MARK_LIGATURE => |b, index, _| applying!(gpos_mark_ligature, b, index),
+        MARK_MARK => |b, index, near| applying!(gpos_mark_mark, b, index, 0, near),
         TO_CLUSTERS => moving!(gpos_to_clusters),
         _ => moving!(gpos_from_clusters),
     }

@@ -109,12 +109,12 @@ fn rows(count: usize) -> Vec<u8> {
     joined(words([count].into_iter().chain(vec![0; 4 * count])), &tables)
 }
 
-/// 32 marks, 101 to 132, in four classes, and 32 bases, 1 to 32; or ligatures of three components.
+/// 32 marks, 101 to 132, in four classes, and 32 bases, 1 to 32; or ligatures of three components; or marks that stand below.
 fn marks(kind: u8) -> Vec<u8> {
     let records = words([32].into_iter().chain((0..32).flat_map(|k| [k % 4, 0])));
     let array = joined(records, &(0..32).map(|k| (2 + 2 * k, anchor(20 + k, 10 + k))).collect::<Vec<_>>());
-    let bases =
-        if kind == MARK_BASE { rows(32) } else { joined(words([32].into_iter().chain([0; 32])), &(0..32).map(|k| (1 + k, rows(3))).collect::<Vec<_>>()) };
+    let ligatures = || joined(words([32].into_iter().chain([0; 32])), &(0..32).map(|k| (1 + k, rows(3))).collect::<Vec<_>>());
+    let bases = if kind == MARK_LIGATURE { ligatures() } else { rows(32) };
     joined(words([1, 0, 0, 4, 0, 0]), &[(4, array), (5, bases), (1, covers(101..=132)), (2, covers(1..=32))])
 }
 
@@ -139,10 +139,21 @@ fn marked(k: usize) -> Slot {
     }
 }
 
+/// Every third slot a base, then two marks of one component, the first on the base.
+fn stacked(k: usize) -> Slot {
+    let (n, id) = (k / 3 % 32, (k / 3 % 7 + 1) as u8);
+    match k % 3 {
+        0 => Slot { glyph: 201, id, ..PLAIN },
+        1 => Slot { glyph: n + 1, id, component: 2, flags: 3, kind: 1, chain: -1 },
+        _ => Slot { glyph: n + 101, id, component: 2, flags: 3, ..PLAIN },
+    }
+}
+
 impl Case {
     pub fn new(call: &str, case: &str, slots: usize) -> Self {
         let pair = |second| line(slots, |k| Slot { glyph: if k == 1 { second } else { 1 }, ..PLAIN });
         let each_mark: Vec<_> = (0..slots).filter(|k| k % 2 == 1).map(|k| (k, 0)).collect();
+        let each_stack: Vec<_> = (0..slots).filter(|k| k % 3 == 2).map(|k| (k, k - 1)).collect();
         let (kind, line, subtable, calls, from_end) = match (call, case) {
             ("start", _) => (START, line(slots, |k| attached(case, k)), vec![], vec![(0, 0)], 0),
             ("finish", _) => (FINISH, line(slots, |k| attached(case, k)), vec![], vec![(0, 0)], 0),
@@ -154,6 +165,7 @@ impl Case {
             ("cursive", _) => (CURSIVE, pair(2), cursive(), vec![(1, 0)], 2),
             ("mark_base", _) => (MARK_BASE, line(slots, marked), marks(MARK_BASE), each_mark, 2),
             ("mark_ligature", _) => (MARK_LIGATURE, line(slots, marked), marks(MARK_LIGATURE), each_mark, 2),
+            ("mark_mark", _) => (MARK_MARK, line(slots, stacked), marks(MARK_MARK), each_stack, 2),
             ("to_clusters", _) => (TO_CLUSTERS, line(slots, marked), vec![0; 28 * slots], vec![(0, 0)], 0),
             ("from_clusters", _) => (FROM_CLUSTERS, with_clusters(&line(slots, marked)), vec![0; 24 * slots], vec![(0, 0)], 0),
             _ => panic!("no case {call} {case}"),

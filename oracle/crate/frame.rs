@@ -8,8 +8,9 @@ pub const PAIR: u8 = 3;
 pub const CURSIVE: u8 = 4;
 pub const MARK_BASE: u8 = 5;
 pub const MARK_LIGATURE: u8 = 6;
-pub const TO_CLUSTERS: u8 = 7;
-pub const FROM_CLUSTERS: u8 = 8;
+pub const MARK_MARK: u8 = 7;
+pub const TO_CLUSTERS: u8 = 8;
+pub const FROM_CLUSTERS: u8 = 9;
 /// Asks which kinds are answered.
 pub const KINDS: u8 = 255;
 

@@ -25,6 +25,7 @@ pub enum Loaded<'a> {
     Cursive(g::CursivePos1<'a>),
     MarkBase(g::MarkBasePos1<'a>),
     MarkLigature(g::MarkLigPos1<'a>),
+    MarkMark(g::MarkMarkPos1<'a>),
 }
 use Loaded::*;
 
@@ -62,6 +63,7 @@ impl<'a> Loaded<'a> {
             (CURSIVE, 1) => Cursive(g::CursivePos1::new(table!(rf::CursivePosFormat1))?),
             (MARK_BASE, 1) => MarkBase(g::MarkBasePos1::new(table!(rf::MarkBasePosFormat1))?),
             (MARK_LIGATURE, 1) => MarkLigature(g::MarkLigPos1::new(table!(rf::MarkLigPosFormat1))?),
+            (MARK_MARK, 1) => MarkMark(g::MarkMarkPos1::new(table!(rf::MarkMarkPosFormat1))?),
             _ => unreachable!(),
         })
     }
@@ -79,6 +81,7 @@ impl<'a> Loaded<'a> {
             Cursive(t) => t.apply(ctx, index),
             MarkBase(t) => t.apply(ctx, index),
             MarkLigature(t) => t.apply(ctx, index),
+            MarkMark(t) => t.apply(ctx, index),
         }
     }
 }

@@ -51,7 +51,7 @@ fn subtable_ok(kind: u8, subtable: &[u8]) -> bool {
         (PAIR, 1) => 10,
         (PAIR, 2) => 16,
         (CURSIVE, 1) => 6,
-        (MARK_BASE | MARK_LIGATURE, 1) => 12,
+        (MARK_BASE | MARK_LIGATURE | MARK_MARK, 1) => 12,
         _ => return false,
     };
     if subtable.len() < header {
@@ -66,7 +66,7 @@ fn subtable_ok(kind: u8, subtable: &[u8]) -> bool {
     list_at_ok(subtable, 2, false)
         && match kind {
             PAIR if format == 2 => list_at_ok(subtable, 8, true) && list_at_ok(subtable, 10, true),
-            MARK_BASE | MARK_LIGATURE => list_at_ok(subtable, 4, false),
+            MARK_BASE | MARK_LIGATURE | MARK_MARK => list_at_ok(subtable, 4, false),
             _ => true,
         }
 }
@@ -75,8 +75,8 @@ fn index_ok(r: &Request, slots: usize) -> bool {
     r.index < slots
         && match (r.kind, r.neighbour) {
             (PAIR, Neighbour::At(j)) => j > r.index && j < slots,
-            (CURSIVE, Neighbour::At(j)) => j < r.index,
-            (PAIR | CURSIVE, Neighbour::Missing(bound)) => bound <= slots,
+            (CURSIVE | MARK_MARK, Neighbour::At(j)) => j < r.index,
+            (PAIR | CURSIVE | MARK_MARK, Neighbour::Missing(bound)) => bound <= slots,
             _ => true,
         }
 }

@@ -106,7 +106,7 @@ fn finish(r: &Request, buffer: &mut Buffer, line: &mut [u8]) {
 /// An applying call that is not refused with 1 to 6.
 fn applying(r: &Request, buffer: &mut Buffer, out: &mut Vec<u8>) {
     let fuel = match r.kind {
-        MARK_BASE | MARK_LIGATURE => 64 * (buffer.len as u64 + 16),
+        MARK_BASE | MARK_LIGATURE | MARK_MARK => 64 * (buffer.len as u64 + 16),
         _ => u64::MAX,
     };
     bytemuck::FUEL.with(|f| f.set(fuel));
@@ -170,7 +170,7 @@ pub fn answer_frames() {
         input.read_exact(&mut request).unwrap();
         out.clear();
         if request[0] == KINDS {
-            output.write_all(&[0, 0, 0, 9, 1, 1, 1, 1, 1, 1, 1, 1, 1]).unwrap();
+            output.write_all(&[0, 0, 0, 10, 1, 1, 1, 1, 1, 1, 1, 1, 1, 1]).unwrap();
             continue;
         }
         serve(&request, &mut buffer, &mut out);

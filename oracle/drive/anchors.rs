@@ -29,7 +29,7 @@ fn cursive(place: usize, anchor: &[u16]) -> Call {
     on(CURSIVE, &slots, laid(words(&[1, 0, 2, 0, 0, 0, 0]), &tables))
 }
 
-/// Attachment of a mark to a base, or to a component of a ligature, which are alike but for how a row of anchors is chosen.
+/// Attachment of a mark to a base, to a component of a ligature, or to an earlier mark, which are alike but for how a row of anchors is chosen.
 #[derive(Clone, Copy)]
 struct Attaching {
     kind: usize,
@@ -39,18 +39,19 @@ struct Attaching {
 impl Attaching {
     /// A subtable of bases 1 to 3 and marks 20 to 22, with the mark array at its end or the rows.
     fn subtable(self, marks: &[u8], rows: &[u8], marks_last: bool) -> Vec<u8> {
-        let bases = if self.kind == MARK_BASE { rows.to_vec() } else { laid(words(&[1, 0]), &[(2, rows.to_vec())]) };
+        let bases = if self.kind == MARK_LIGATURE { laid(words(&[1, 0]), &[(2, rows.to_vec())]) } else { rows.to_vec() };
         let mut tables = vec![(2, covering(&[20, 21, 22])), (4, covering(&[1, 2, 3])), (8, marks.to_vec()), (10, bases)];
         if marks_last {
             tables.swap(2, 3);
         }
         laid(words(&[1, 0, 0, self.classes, 0, 0]), &tables)
     }
-    /// A mark on a row of anchors: the base's own, or that of a ligature's component, whose number is one more.
+    /// A mark on a row of anchors: the base's or the earlier mark's own, or that of a ligature's component, whose number is one more.
     fn attach(self, subtable: &[u8], row: usize, mark: usize) -> Call {
-        let is_base = self.kind == MARK_BASE;
-        let base = Slot { ligature_id: 1, flags: 1, ..of_glyph(if is_base { 1 + row as u16 } else { 1 }) };
-        let component = if is_base { 0 } else { 1 + row as u8 };
+        let is_ligature = self.kind == MARK_LIGATURE;
+        let flags = if self.kind == MARK_MARK { 2 } else { 1 };
+        let base = Slot { ligature_id: 1, flags, ..of_glyph(if is_ligature { 1 } else { 1 + row as u16 }) };
+        let component = if is_ligature { 1 + row as u8 } else { 0 };
         let mark = Slot { ligature_id: 1, component, flags: 2, ..of_glyph(20 + mark as u16) };
         on(self.kind, &[base, mark], subtable.to_vec())
     }
@@ -89,7 +90,7 @@ pub fn groups() -> Vec<Group> {
     let anchors = places.iter().flat_map(|place| ANCHORS.map(|a| cursive(*place, a)));
     let cut = places.iter().flat_map(|place| CUT_ANCHORS.map(|a| cut_each(&cursive(*place, a))).concat());
     let mut all = vec![group("anchors: formats 1 to 3, unknown", anchors.collect()), group("anchors cut at every byte", cut.collect())];
-    for (kind, name) in [(MARK_BASE, "base"), (MARK_LIGATURE, "ligature")] {
+    for (kind, name) in [(MARK_BASE, "base"), (MARK_LIGATURE, "ligature"), (MARK_MARK, "mark")] {
         all.push(group(&format!("mark arrays, by mark to {name}"), Attaching { kind, classes: 4 }.mark_arrays()));
         all.push(group(&format!("rows of anchors, by mark to {name}"), Attaching { kind, classes: 2 }.rows()));
     }

@@ -19,7 +19,7 @@ pub struct Call {
     pub subtable: Vec<u8>,
 }
 
-pub const NAMES: [&str; 9] = ["start", "finish", "single", "pair", "cursive", "mark_base", "mark_ligature", "to_clusters", "from_clusters"];
+pub const NAMES: [&str; 10] = ["start", "finish", "single", "pair", "cursive", "mark_base", "mark_ligature", "mark_mark", "to_clusters", "from_clusters"];
 pub const START: usize = 0;
 pub const FINISH: usize = 1;
 pub const SINGLE: usize = 2;
@@ -27,11 +27,17 @@ pub const PAIR: usize = 3;
 pub const CURSIVE: usize = 4;
 pub const MARK_BASE: usize = 5;
 pub const MARK_LIGATURE: usize = 6;
-pub const TO_CLUSTERS: usize = 7;
-pub const FROM_CLUSTERS: usize = 8;
+pub const MARK_MARK: usize = 7;
+pub const TO_CLUSTERS: usize = 8;
+pub const FROM_CLUSTERS: usize = 9;
 
 pub fn is_applying(kind: usize) -> bool {
-    (SINGLE..=MARK_LIGATURE).contains(&kind)
+    (SINGLE..=MARK_MARK).contains(&kind)
+}
+
+/// Does the caller name another slot, or that it is missing?
+pub fn has_neighbour(kind: usize) -> bool {
+    matches!(kind, PAIR | CURSIVE | MARK_MARK)
 }
 
 pub fn is_move(kind: usize) -> bool {
@@ -147,7 +153,7 @@ impl Call {
         if is_applying(self.kind) {
             t += &format!(", s {}, u {}, index {}, {} bytes of subtable", self.s, self.u, self.index, self.subtable.len());
         }
-        if self.kind == PAIR || self.kind == CURSIVE {
+        if has_neighbour(self.kind) {
             t += &format!(", neighbour {} {}", if self.missing == 0 { "at" } else { "missing, bound" }, self.neighbour);
         }
         if self.kind == CURSIVE {

@@ -3,7 +3,7 @@
 use crate::call::*;
 use crate::lines::{push, Slot};
 use crate::tables::words;
-use crate::{anchors, edges, glyph_lists, long_lines};
+use crate::{anchors, edges, glyph_lists, long_lines, stacks};
 
 /// Calls on one subject.
 pub struct Group {
@@ -20,6 +20,7 @@ pub fn groups() -> Vec<Group> {
     let mut all = long_lines::groups();
     all.extend(glyph_lists::groups());
     all.extend(anchors::groups());
+    all.extend(stacks::groups());
     all.extend(edges::groups());
     all
 }
@@ -76,7 +77,7 @@ pub fn single_by(format: u16, record: &[i16]) -> Vec<u8> {
     laid(words(&[&[1, 0, format], &values[..]].concat()), &[(2, covering(&[7]))])
 }
 
-/// Rows of anchors, a row for each base or component and an anchor for each class of marks.
+/// Rows of anchors, a row for each base, component or earlier mark and an anchor for each class of marks.
 pub fn rows_of(rows: &[&[(i16, i16)]]) -> Vec<u8> {
     let points = rows.concat();
     let tables: Vec<_> = points.iter().enumerate().map(|(k, (x, y))| (2 + 2 * k, anchor_at(*x, *y))).collect();

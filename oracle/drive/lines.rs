@@ -134,6 +134,11 @@ fn good_line(r: &mut Rng, size: usize) -> Vec<u8> {
     out
 }
 
+/// Is one of the slot's numbers out of range?
+pub fn is_bad(slot: &[u8]) -> bool {
+    slot[2] > 7 || slot[3] > 15 || slot[4] > 7
+}
+
 fn line(r: &mut Rng, size: usize, odds: usize) -> Vec<u8> {
     let mut out = good_line(r, size);
     if !out.is_empty() && r.once_in(odds) {
@@ -188,6 +193,37 @@ fn neighbour(r: &mut Rng, call: &mut Call, odds: usize) {
     };
 }
 
+/// Mostly makes a mark of the earlier slot that is named, with an id and a component that match the later slot's or nearly do.
+fn stack(r: &mut Rng, call: &mut Call) {
+    let (earlier, own) = (call.neighbour as usize, call.index as usize);
+    if call.missing != 0 || call.neighbour >= call.index || own >= call.slots() || [earlier, own].iter().any(|i| is_bad(call.slot(*i))) {
+        return;
+    }
+    if !r.once_in(12) {
+        call.slot(earlier)[4] |= 2;
+    }
+    let (id, component) = (1 + r.below(7) as u8, 1 + r.below(15) as u8);
+    let other = (id + 1 + r.below(6) as u8) % 8;
+    let [low, high] = match r.below(16) {
+        0 | 1 => [(0, component), (0, r.below(16) as u8)],
+        2 => [(id, component), (id, component)],
+        3 => [(id, component - 1), (id, component - 1)],
+        4 => [(id, component), (id, component - 1)],
+        5 => [(id, component - 1), (id, component)],
+        6 => [(id, component), (id, component ^ 8)],
+        7 => [(id, 0), (other, component)],
+        8 => [(other, component), (id, 0)],
+        9 => [(id, component), (0, 0)],
+        10 => [(0, 0), (id, component)],
+        11 => [(id, component), (other, component)],
+        12 => [(id, 0), (other, 0)],
+        _ => return,
+    };
+    for (i, (id, component)) in [(earlier, low), (own, high)] {
+        call.slot(i)[2..4].copy_from_slice(&[id, component]);
+    }
+}
+
 /// A call of the kind on a line of either form. Where the size is wrong, it may be the other form's.
 fn on_line(r: &mut Rng, kind: usize, odds: usize) -> Call {
     let form = r.pick(forms(kind));
@@ -225,8 +261,11 @@ pub fn arguments(r: &mut Rng, kind: usize, odds: usize) -> Call {
             _ => (1 + r.below(n.max(2) - 1)).min(n - 1) as u64,
         }
     };
-    if kind == PAIR || kind == CURSIVE {
+    if has_neighbour(kind) {
         neighbour(r, &mut call, odds);
+    }
+    if kind == MARK_MARK {
+        stack(r, &mut call);
     }
     call
 }

@@ -14,6 +14,7 @@ mod rng;
 mod sets;
 mod shrink;
 mod sides;
+mod stacks;
 mod tables;
 mod worked_sums;
 

@@ -4,6 +4,7 @@ use crate::call::*;
 use crate::lines::{arguments, push, scatter_clusters, Slot, WRONG_SIZES};
 use crate::moves;
 use crate::rng::Rng;
+use crate::stacks;
 use crate::tables::{damage, subtable, whole};
 
 pub struct Set {
@@ -12,19 +13,19 @@ pub struct Set {
     pub make: fn(kind: usize, form: usize, number: usize) -> Call,
 }
 
-/// A line of n slots of so many bytes, for a call of the kind that is applied.
+/// A line of n slots of so many bytes, for a call of the kind that is applied. For marks on marks all are marks of one component.
 fn plain_line(kind: usize, size: usize, n: usize) -> Vec<u8> {
     let mut line = vec![];
     for i in 0..n {
-        let marks = kind >= MARK_BASE && i + 1 == n;
+        let is_mark = kind == MARK_MARK || kind >= MARK_BASE && i + 1 == n;
         push(
             &mut line,
             size,
             Slot {
                 glyph: (i % 8) as u16,
                 ligature_id: 1,
-                component: (i % 4) as u8,
-                flags: if marks { 2 } else { 1 },
+                component: if kind == MARK_MARK { 3 } else { (i % 4) as u8 },
+                flags: if is_mark { 2 } else { 1 },
                 kind: 0,
                 chain: 0,
                 measures: [600 + i as i32, 31 * i as i32, i as i32 * 7, -5 * i as i32],
@@ -94,6 +95,7 @@ fn chains(kind: usize, form: usize, mut number: usize) -> Call {
             (call.index, call.neighbour) = [(1, 0), (2, 1), (2, 0)][digit(&mut number, 3)];
         }
         MARK_BASE | MARK_LIGATURE if digit(&mut number, 2) == 1 => call.slot(1)[4] = 0,
+        MARK_MARK => (call.index, call.neighbour) = [(1, 0), (2, 1), (2, 0)][digit(&mut number, 3)],
         _ => {}
     }
     call
@@ -115,8 +117,13 @@ fn labels(kind: usize, form: usize, mut number: usize) -> Call {
             slot[6..8].copy_from_slice(&chain.to_be_bytes());
         }
     }
+    if kind == MARK_MARK {
+        stacks::on_letters(&mut call, letters);
+    }
     call
 }
+
+const LABELS: usize = 6 * 3 * 3 * 2 * 16 * 4;
 
 /// A call on a line of n bytes: whole slots, and zeros behind them.
 fn of_length(kind: usize, form: usize, n: usize) -> Call {
@@ -270,7 +277,12 @@ pub fn sets(kind: usize) -> Vec<Set> {
         CURSIVE => all.push(Set { name: "short lines", count: short * 4 * 2 * 3, make: chains }),
         MARK_BASE | MARK_LIGATURE => {
             all.push(Set { name: "short lines", count: short * 4 * 2, make: chains });
-            all.push(Set { name: "labels", count: 6 * 3 * 3 * 2 * 16 * 4, make: labels });
+            all.push(Set { name: "labels", count: LABELS, make: labels });
+        }
+        MARK_MARK => {
+            all.push(Set { name: "short lines", count: short * 4 * 3, make: chains });
+            all.push(Set { name: "labels", count: LABELS, make: labels });
+            all.extend(stacks::sets());
         }
         _ => {}
     }

@@ -1,5 +1,6 @@
 //! Subtables of every kind: good, odd and damaged.
 use crate::call::*;
+use crate::groups::laid;
 use crate::lines::glyph;
 use crate::rng::Rng;
 
@@ -260,6 +261,39 @@ fn marks(r: &mut Rng, ligature: bool, odds: usize) -> Vec<u8> {
     assemble(r, t, children, odds)
 }
 
+/// Rows of anchors for earlier marks, with one anchor among their own offsets: whole, a byte short, a row short, or a byte longer.
+fn tight_rows(r: &mut Rng, classes: usize) -> Vec<u8> {
+    let rows = 4 + r.below(8);
+    let mut t = words(&[rows as u16, 4, 1, value(r), value(r)]);
+    t.extend(words(&vec![4; rows * classes - 4]));
+    match r.below(4) {
+        0 => drop(t.pop()),
+        1 => t[1] += 1,
+        2 => t.push(0),
+        _ => {}
+    }
+    t
+}
+
+/// As for bases; or with an array at the end that just fits or is cut: that of the earlier marks, or the mark array.
+fn mark_marks(r: &mut Rng, odds: usize) -> Vec<u8> {
+    let which = r.below(8);
+    if which > 2 {
+        return marks(r, false, odds);
+    }
+    let classes = 1 + r.below(2);
+    let mut array = mark_array(r, classes, odds);
+    let rows = tight_rows(r, classes);
+    let [inside, last] = if which == 0 {
+        array.truncate(2 + r.below(array.len() - 2));
+        [(10, rows), (8, array)]
+    } else {
+        [(8, array), (10, rows)]
+    };
+    let children = vec![(2, coverage(r, odds)), (4, coverage(r, odds)), inside];
+    laid(assemble(r, words(&[1, 0, 0, classes as u16, 0, 0]), children, odds), &[last])
+}
+
 /// A subtable of the kind. `odds` is how seldom a part of it is wrong.
 pub fn subtable(r: &mut Rng, kind: usize, odds: usize) -> Vec<u8> {
     match kind {
@@ -268,6 +302,7 @@ pub fn subtable(r: &mut Rng, kind: usize, odds: usize) -> Vec<u8> {
         CURSIVE => cursive(r, odds),
         MARK_BASE => marks(r, false, odds),
         MARK_LIGATURE => marks(r, true, odds),
+        MARK_MARK => mark_marks(r, odds),
         _ => vec![],
     }
 }
@@ -291,11 +326,11 @@ pub fn whole(kind: usize) -> Vec<u8> {
             children.push((2, glyphs));
             assemble(r, [words(&[1, 0, 8]), vec![0; 32]].concat(), children, never)
         }
-        MARK_BASE | MARK_LIGATURE => {
+        MARK_BASE | MARK_LIGATURE | MARK_MARK => {
             let marks = assemble(r, [words(&[8]), vec![0; 32]].concat(), anchors(4, 4, 0), never);
             let rows = assemble(r, [words(&[8]), vec![0; 16]].concat(), anchors(2, 2, 5), never);
             let ligatures = || (0..8).map(|k| (2 + 2 * k, rows.clone())).collect();
-            let bases = if kind == MARK_BASE { rows.clone() } else { assemble(r, [words(&[8]), vec![0; 16]].concat(), ligatures(), never) };
+            let bases = if kind == MARK_LIGATURE { assemble(r, [words(&[8]), vec![0; 16]].concat(), ligatures(), never) } else { rows.clone() };
             assemble(r, words(&[1, 0, 0, 1, 0, 0]), vec![(2, glyphs.clone()), (4, glyphs), (8, marks), (10, bases)], never)
         }
         _ => vec![],
