@@ -1,6 +1,6 @@
-/* Every call with good input, then where it declines, then where it is refused, each refusal by
-   another number: on slots of 24 bytes and on slots of 28. Then good input on slots of 26 bytes,
-   which no call takes; then the moves. gpos_start, gpos_finish and the moves never decline. */
+/* Every call with good input, then where it declines, then where it is refused, by each number from
+   1 to 7: on slots of 24 bytes and on slots of 28. Then good input on slots of 26 bytes, which no
+   call takes; then the moves. gpos_start, gpos_finish and the moves never decline. */
 #include "words.h"
 
 enum { LETTER = 1, MARK = 2, ZWNJ = 3, SLOTS = 3 };
@@ -30,28 +30,35 @@ static const uint8_t joins[] = {
     /* 22 */ ANCHOR(500, 20),
 };
 
-/* MarkBasePos and MarkLigPos, format 1, are alike up to their last array, at 36: marks of one
-   class, the mark's anchor at (10, 20). */
-#define MARK_ON_LETTER                                                                         \
-    /*  0 */ U16(1), U16(12), U16(18), /* format, coverages at 12 and 18 */                    \
-    /*  6 */ U16(1), U16(24), U16(36), /* one class, mark array at 24, letters' array at 36 */ \
-    /* 12 */ COVERAGE(MARK),                                                                   \
-    /* 18 */ COVERAGE(LETTER),                                                                 \
-    /* 24 */ U16(1), U16(0), U16(6), /* one mark: its class, its anchor 6 farther on */        \
+/* MarkBasePos, MarkLigPos and MarkMarkPos, format 1, are alike up to their last array, at 36: marks
+   of one class, the mark's anchor at (10, 20), on one glyph. */
+#define MARK_ON(glyph)                                                                      \
+    /*  0 */ U16(1), U16(12), U16(18), /* format, coverages at 12 and 18 */                 \
+    /*  6 */ U16(1), U16(24), U16(36), /* one class, mark array at 24, the other's at 36 */ \
+    /* 12 */ COVERAGE(MARK),                                                                \
+    /* 18 */ COVERAGE(glyph),                                                               \
+    /* 24 */ U16(1), U16(0), U16(6), /* one mark: its class, its anchor 6 farther on */     \
     /* 30 */ ANCHOR(10, 20)
 
 static const uint8_t on_base[] = {
-    MARK_ON_LETTER,
+    MARK_ON(LETTER),
     /* 36 */ U16(1), U16(4), /* one base: its anchor 4 farther on */
     /* 40 */ ANCHOR(300, 700),
 };
 
 /* The letter is a ligature here, of one component. */
 static const uint8_t on_ligature[] = {
-    MARK_ON_LETTER,
+    MARK_ON(LETTER),
     /* 36 */ U16(1), U16(4), /* one ligature, 4 farther on */
     /* 40 */ U16(1), U16(4), /* one component: its anchor 4 farther on */
     /* 44 */ ANCHOR(300, 700),
+};
+
+/* The mark on another of the same glyph. */
+static const uint8_t on_mark[] = {
+    MARK_ON(MARK),
+    /* 36 */ U16(1), U16(4), /* one earlier mark: its anchor 4 farther on */
+    /* 40 */ ANCHOR(15, 250),
 };
 
 static size_t size; /* of a slot */
@@ -84,6 +91,16 @@ static void part(uint8_t flags) {
     gpos_put_slot(slot(1), zwnj);
 }
 
+/* A letter and two marks, which stand on these components of a ligature, if they have its id. */
+static void stack(uint8_t id, uint8_t first, uint8_t second) {
+    gpos_slot mark = {.glyph = MARK, .ligature_id = id, .flags = GPOS_SLOT_MARK};
+    fill();
+    mark.component = first;
+    gpos_put_slot(slot(1), mark);
+    mark.component = second;
+    gpos_put_slot(slot(2), mark);
+}
+
 /* Two letters, each hanging on the other, and a mark. */
 static void tangle(void) {
     gpos_slot letter = {.glyph = LETTER, .flags = GPOS_SLOT_SEEN, .x_advance = 600};
@@ -103,6 +120,8 @@ static void applied(void) {
     say("gpos_cursive", gpos_cursive(WITH(joins), 1, GPOS_NEIGHBOUR_NAMED, 0, 0));
     say("gpos_mark_base", gpos_mark_base(WITH(on_base), 2));
     say("gpos_mark_ligature", gpos_mark_ligature(WITH(on_ligature), 2));
+    stack(0, 0, 0);
+    say("gpos_mark_mark", gpos_mark_mark(WITH(on_mark), 2, GPOS_NEIGHBOUR_NAMED, 1));
     say_done("gpos_finish", gpos_finish(LINE, GPOS_DIRECTION_LEFT_TO_RIGHT, GPOS_NESTING_LIMIT, 1));
     part(0);
     say("gpos_mark_base past a ZWNJ that isn't seen", gpos_mark_base(WITH(on_base), 2));
@@ -121,6 +140,13 @@ static void declined(void) {
     part(GPOS_SLOT_SEEN);
     say("gpos_mark_base behind a ZWNJ that is seen, and should not be",
         gpos_mark_base(WITH(on_base), 2));
+    say("gpos_mark_mark without an earlier glyph",
+        gpos_mark_mark(WITH(on_mark), 2, GPOS_NEIGHBOUR_MISSING, 0));
+    say("gpos_mark_mark behind a letter",
+        gpos_mark_mark(WITH(on_mark), 2, GPOS_NEIGHBOUR_NAMED, 0));
+    stack(1, 1, 2);
+    say("gpos_mark_mark, the marks on two components of a ligature",
+        gpos_mark_mark(WITH(on_mark), 2, GPOS_NEIGHBOUR_NAMED, 1));
 }
 
 static void refused(void) {
@@ -135,6 +161,8 @@ static void refused(void) {
     fill();
     say("gpos_pair, the second not after the first",
         gpos_pair(WITH(kern), 1, GPOS_NEIGHBOUR_NAMED, 0));
+    say("gpos_mark_mark, the earlier not before the mark",
+        gpos_mark_mark(WITH(on_mark), 2, GPOS_NEIGHBOUR_NAMED, 2));
     say("gpos_mark_base, no subtable",
         gpos_mark_base(LINE, NULL, 0, GPOS_DIRECTION_LEFT_TO_RIGHT, 1000, 1000, 2));
     tangle();

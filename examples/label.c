@@ -23,15 +23,18 @@ static const struct {
     int gdef_class;    /* 0 if GDEF has none */
     bool ignorable;    /* a default ignorable that no substitution has replaced */
     uint32_t features; /* those that are on at this glyph */
+    struct {
+        uint32_t class, sets; /* GDEF's class of marks, 0 if none; and sets of marks, a bit each */
+    } mark;
 } glyphs[] = {
-    {"ghain", GHAIN, 600, BASE, false, KERN | MARKS},
-    {"damma", DAMMA, 200, MARK, false, KERN | MARKS},
-    {"reh", REH, 400, BASE, false, KERN | MARKS},
-    {"feh", FEH, 800, BASE, false, KERN | MARKS},
-    {"heh", HEH_FINAL, 500, BASE, false, KERN | MARKS},
-    {"ZWNJ", ZWNJ, 120, BASE, true, KERN | MARKS},
-    {"heh", HEH_INITIAL, 560, BASE, false, KERN | MARKS},
-    {"alef", ALEF, 240, BASE, false, KERN | MARKS},
+    {"ghain", GHAIN, 600, BASE, false, KERN | MARKS, {0, 0}},
+    {"damma", DAMMA, 200, MARK, false, KERN | MARKS, {1, 1 << 0}},
+    {"reh", REH, 400, BASE, false, KERN | MARKS, {0, 0}},
+    {"feh", FEH, 800, BASE, false, KERN | MARKS, {0, 0}},
+    {"heh", HEH_FINAL, 500, BASE, false, KERN | MARKS, {0, 0}},
+    {"ZWNJ", ZWNJ, 120, BASE, true, KERN | MARKS, {0, 0}},
+    {"heh", HEH_INITIAL, 560, BASE, false, KERN | MARKS, {0, 0}},
+    {"alef", ALEF, 240, BASE, false, KERN | MARKS, {0, 0}},
 };
 enum { COUNT = sizeof glyphs / sizeof *glyphs, SIZE = GPOS_PLAIN_SIZE };
 
@@ -66,6 +69,7 @@ static const uint8_t vowels_on_letters[] = {
 
 typedef struct {
     uint32_t type, flag, feature;
+    uint32_t mark_set; /* if the flag says that there is one */
     size_t subtable_count;
     struct {
         const uint8_t *bytes;
@@ -74,8 +78,8 @@ typedef struct {
 } lookup;
 
 static const lookup lookups[] = {
-    {2, GPOS_LOOKUP_IGNORE_MARKS, KERN, 1, {{kern_pairs, sizeof kern_pairs}}},
-    {4, 0, MARKS, 1, {{vowels_on_letters, sizeof vowels_on_letters}}},
+    {2, GPOS_LOOKUP_IGNORE_MARKS, KERN, 0, 1, {{kern_pairs, sizeof kern_pairs}}},
+    {4, 0, MARKS, 0, 1, {{vowels_on_letters, sizeof vowels_on_letters}}},
 };
 enum { LOOKUPS = sizeof lookups / sizeof *lookups };
 
@@ -100,25 +104,42 @@ static void fill(void) {
 
 static bool in_feature(const lookup *l, size_t i) { return glyphs[i].features & l->feature; }
 
-/* Whether the lookup's flag skips the glyph. A font may also choose marks, by class or by set
-   (GPOS_LOOKUP_MARK_ATTACHMENT_CLASS, GPOS_LOOKUP_USE_MARK_FILTERING_SET): then the others are
-   skipped too. */
+/* Whether the lookup's flag chooses marks, by set or else by class, and this is another mark. */
+static bool leaves_out(const lookup *l, size_t i) {
+    uint32_t class = (l->flag & GPOS_LOOKUP_MARK_ATTACHMENT_CLASS) >> 8;
+    if (glyphs[i].gdef_class != MARK) return false;
+    if (l->flag & GPOS_LOOKUP_USE_MARK_FILTERING_SET)
+        return !(glyphs[i].mark.sets >> l->mark_set & 1);
+    return class != 0 && class != glyphs[i].mark.class;
+}
+
+/* Whether the lookup's flag skips the glyph. */
 static bool skips(const lookup *l, size_t i) {
     switch (glyphs[i].gdef_class) {
     case BASE: return l->flag & GPOS_LOOKUP_IGNORE_BASES;
     case LIGATURE: return l->flag & GPOS_LOOKUP_IGNORE_LIGATURES;
-    case MARK: return l->flag & GPOS_LOOKUP_IGNORE_MARKS;
+    case MARK: return (l->flag & GPOS_LOOKUP_IGNORE_MARKS) || leaves_out(l, i);
     default: return false;
     }
 }
 
-/* For lookups of type 4 and 5: which glyphs a mark's base is looked for among. (This label has no
-   ZWJ, which stays seen in the features mark and mkmk.) */
+/* Whether the lookup, where it looks for a glyph beside the one at hand, sees this one: it takes
+   the first that it sees. (This label has no ZWJ, which is seen in the features mark and mkmk.) */
+static bool sees(const lookup *l, size_t i) {
+    if (glyphs[i].ignorable) return false;
+    switch (l->type) {
+    case 4:
+    case 5: return glyphs[i].gdef_class != MARK && in_feature(l, i);
+    case 6: return !leaves_out(l, i); /* letters too, whatever the flag: the search ends there */
+    default: return !skips(l, i);
+    }
+}
+
+/* For lookups of type 4 and 5, whose calls look for a mark's base themselves. */
 static void set_seen(const lookup *l) {
     for (size_t i = 0; i < COUNT; i++) {
         gpos_slot s = gpos_get_slot(slot(i));
-        bool hidden = glyphs[i].gdef_class == MARK || glyphs[i].ignorable || !in_feature(l, i);
-        s.flags = (uint8_t)((s.flags & ~GPOS_SLOT_SEEN) | (hidden ? 0 : GPOS_SLOT_SEEN));
+        s.flags = (uint8_t)((s.flags & ~GPOS_SLOT_SEEN) | (sees(l, i) ? GPOS_SLOT_SEEN : 0));
         gpos_put_slot(slot(i), s);
     }
 }
@@ -131,17 +152,17 @@ typedef struct {
 /* The second glyph of a pair. */
 static neighbour next_of(const lookup *l, size_t i) {
     for (size_t j = i + 1; j < COUNT; j++) {
-        if (skips(l, j) || glyphs[j].ignorable) continue;
+        if (!sees(l, j)) continue;
         if (in_feature(l, j)) return (neighbour){GPOS_NEIGHBOUR_NAMED, j};
         return (neighbour){GPOS_NEIGHBOUR_MISSING, j + 1};
     }
     return (neighbour){GPOS_NEIGHBOUR_MISSING, COUNT};
 }
 
-/* The glyph that a cursive one joins. */
+/* The glyph that a cursive one joins, or on which a mark goes if it is a mark too. */
 static neighbour previous_of(const lookup *l, size_t i) {
     for (size_t j = i; j-- > 0;) {
-        if (skips(l, j) || glyphs[j].ignorable) continue;
+        if (!sees(l, j)) continue;
         if (in_feature(l, j)) return (neighbour){GPOS_NEIGHBOUR_NAMED, j};
         return (neighbour){GPOS_NEIGHBOUR_MISSING, j > 0 ? j - 1 : 0};
     }
@@ -157,7 +178,8 @@ static gpos_answer apply_subtable(const lookup *l, const uint8_t *bytes, size_t 
     case 2: n = next_of(l, i); return gpos_pair(AT(i), n.missing, n.slot);
     case 3: n = previous_of(l, i); return gpos_cursive(AT(i), n.missing, n.slot, l->flag);
     case 4: return gpos_mark_base(AT(i));
-    default: return gpos_mark_ligature(AT(i));
+    case 5: return gpos_mark_ligature(AT(i));
+    default: n = previous_of(l, i); return gpos_mark_mark(AT(i), n.missing, n.slot);
     }
 }
 
@@ -177,8 +199,8 @@ static size_t apply_at(const lookup *l, size_t i, bool *attached) {
 }
 
 static void apply_lookup(const lookup *l, bool *attached) {
-    if (l->type < 1 || l->type > 5) return; /* not in the library */
-    if (l->type >= 4) set_seen(l);
+    if (l->type < 1 || l->type > 6) return; /* not in the library */
+    if (l->type == 4 || l->type == 5) set_seen(l);
     for (size_t i = 0; i < COUNT;)
         i = in_feature(l, i) && !skips(l, i) ? apply_at(l, i, attached) : i + 1;
 }

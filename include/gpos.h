@@ -14,18 +14,17 @@
  *         at each slot from 0 up, unless its glyph is outside the lookup's feature, or the
  *         lookup's flag skips it:
  *             try the lookup's subtables in turn, by gpos_single, gpos_pair, gpos_cursive,
- *             gpos_mark_base or gpos_mark_ligature; the first that applies ends the turn,
- *             and its answer says at which slot to go on
+ *             gpos_mark_base, gpos_mark_ligature or gpos_mark_mark; the first that applies
+ *             ends the turn, and its answer says at which slot to go on
  *     set the advances of marks and of default ignorables to 0 (if your shaper does; most do)
  *     gpos_finish                      turn attachments into offsets
  *     draw                             (default ignorables aren't shown)
  *
- * NOT IN THE LIBRARY: lookup types 6 (mark to mark), 7 and 8 (contextual). Labels whose lookups
- * have these types come out incomplete: stacked marks in Thai, a vowel on a shadda in many Arabic
- * fonts, Urdu in Nastaliq. Type 9 (extension) you unwrap: pass the subtable that it leads to, by
- * the type that it names. Nor are here: the choice of lookups by script, language and feature;
- * device and variation deltas; a `kern` table; setting advances to 0; vertical origins; a scale of
- * its own for y, or a negative one.
+ * NOT IN THE LIBRARY: lookup types 7 and 8 (contextual). Labels whose lookups have these types come
+ * out incomplete: Urdu in Nastaliq, and many other Arabic fonts. Type 9 (extension) you unwrap:
+ * pass the subtable that it leads to, by the type that it names. Nor are here: the choice of
+ * lookups by script, language and feature; device and variation deltas; a `kern` table; setting
+ * advances to 0; vertical origins; a scale of its own for y, or a negative one.
  *
  *
  * THE SLOT. Numbers are big-endian; signed ones are in two's complement. No address needs to be
@@ -66,7 +65,8 @@
  * Where one glyph becomes several, each gets GPOS_SLOT_MULTIPLIED and, if the glyph had id 0, as
  * its component its place among them, from 0, modulo 16; with another id each keeps id and
  * component. Any other glyph has 0 and 0, a mark behind a ligature's last component too. A mark
- * with the ligature's id and a component goes to that component, any other mark to the last one.
+ * with the ligature's id and a component goes to that component, any other mark to the last one;
+ * and marks are stacked where they stand on the same letter or component (gpos_mark_mark).
  *
  * The cluster says which letter the glyph came from. It is yours to set, to any number: say, the
  * index in the text of the letter's first character. No call but the two moves looks at a cluster
@@ -89,13 +89,14 @@
  *     4   GPOS_REFUSED_SLOT        some slot's ligature id, component or spare flag bits are out of
  *                                  range
  *     5   GPOS_REFUSED_INDEX       the line has no such index; second doesn't follow it, or is past
- *                                  the line; previous doesn't precede it; the bound of a missing
- *                                  one is above the number of slots
+ *                                  the line; previous or earlier doesn't precede it; the bound of
+ *                                  a missing one is above the number of slots
  *     6   GPOS_REFUSED_SUBTABLE    the subtable is over 65,536 bytes, its fixed header is cut, its
  *                                  format is unknown, a value format is above 255, or one of its
  *                                  coverage or class lists is cut, unknown or out of order; other
  *                                  parts that are cut are as good as missing
- *     7   GPOS_REFUSED_ENDLESS     a mark's base hangs on a ring of cursive attachments
+ *     7   GPOS_REFUSED_ENDLESS     what a mark goes on, base, ligature or mark, hangs on a ring of
+ *                                  cursive attachments
  *    10   GPOS_REFUSED_MOVE        the target of a move doesn't have the length of the moved line;
  *                                  or, moving back, a cluster isn't its slot's number and would be
  *                                  lost
@@ -115,7 +116,7 @@
  *     of a move), while the call runs;
  *   - there is stack: gpos_cursive takes up to 328 bytes and 80 for each slot of the line, when an
  *     old chain goes through all of it (82,248 bytes for 1,024 slots); gpos_finish some 64 for each
- *     level of the nesting limit, 4,176 at most; the other calls took up to 464 where they were
+ *     level of the nesting limit, 4,176 at most; the other calls took up to 528 where they were
  *     measured, one call of each, applied or done. No proof covers the depth of the stack.
  *
  * Everything else may have any value: every number is tested, and every byte of line and subtable
@@ -138,9 +139,9 @@ extern "C" {
 #endif
 
 /* The version of this file and of the library that was installed with it. */
-#define GPOS_VERSION "0.2.0"
+#define GPOS_VERSION "0.3.0"
 #define GPOS_VERSION_MAJOR 0
-#define GPOS_VERSION_MINOR 2
+#define GPOS_VERSION_MINOR 3
 #define GPOS_VERSION_PATCH 0
 
 /* Bytes of a slot, without a cluster and with one; the most slots in a line; the most bytes of a
@@ -171,7 +172,7 @@ typedef enum {
      * mark and mkmk HarfBuzz leaves it seen: a mark behind a ZWJ stays where it is. */
     GPOS_SLOT_SEEN = 1,
     /* The glyph is a mark: class 3 of GDEF. It doesn't hide the glyph from the search; a clear
-     * GPOS_SLOT_SEEN does. */
+     * GPOS_SLOT_SEEN does. gpos_mark_mark puts a mark on no glyph without it. */
     GPOS_SLOT_MARK = 2,
     /* The glyph is one of several that a substitution made of one. A mark behind them goes to the
      * first of them, unless the subtable covers another, or, for gpos_mark_base, a slot stands
@@ -199,7 +200,7 @@ typedef enum {
     GPOS_LOOKUP_MARK_ATTACHMENT_CLASS = 0xFF00
 } gpos_lookup_flag;
 
-/* Whether the other glyph of a pair or of a cursive attachment is there. */
+/* Whether the other glyph of a pair, of a cursive attachment or of a mark on a mark is there. */
 typedef enum { GPOS_NEIGHBOUR_NAMED = 0, GPOS_NEIGHBOUR_MISSING = 1 } gpos_neighbour;
 
 /* What an applying call did. */
@@ -344,6 +345,28 @@ gpos_answer gpos_mark_ligature(uint8_t *line, size_t line_len, size_t slot_size,
                                const uint8_t *subtable, size_t subtable_len, uint32_t direction,
                                uint32_t em_size, uint32_t units_per_em, size_t index);
 
+/* Mark-to-mark attachment (lookup type 6): attaches the mark at index to an earlier mark, which you
+ * name: search from index - 1 down, and pass over default ignorables (but not ZWJ in the features
+ * mark and mkmk) and marks that the lookup's flag leaves out by class or by set. Pass over nothing
+ * else, neither bases nor ligatures nor marks, though the flag may have an IGNORE bit for them:
+ * take the first that is left, mark or not, if it is in the lookup's feature.
+ * earlier_missing is GPOS_NEIGHBOUR_NAMED, and earlier its slot; or there is none: it is
+ * GPOS_NEIGHBOUR_MISSING (or any number but 0), and earlier, which only a hazard tells back, is 0;
+ * or, if a glyph outside the feature at a slot i above 0 ended the search, i - 1. If you ignore
+ * hazards, pass 0. The call doesn't look at GPOS_SLOT_SEEN.
+ * The two go together where their ligature ids are equal, and either are 0 or the components are
+ * equal too; and where the ids differ, if one of the two is a mark that is a ligature of glyphs not
+ * all marks: its id isn't 0 and its component is (one of marks alone has no id of its own).
+ * Applied, the mark has both offsets anew and hangs on the earlier mark alone, whatever it hung on
+ * before: so a font may first put it on its base, by type 4.
+ * Declined where the mark is uncovered, without a hazard; where there is no earlier glyph, it isn't
+ * a mark (GPOS_SLOT_MARK) or the two don't go together, with GPOS_UNSAFE_TO_CONCAT; after that,
+ * where the earlier mark is uncovered, or an array or an anchor is missing, without a hazard. */
+gpos_answer gpos_mark_mark(uint8_t *line, size_t line_len, size_t slot_size,
+                           const uint8_t *subtable, size_t subtable_len, uint32_t direction,
+                           uint32_t em_size, uint32_t units_per_em, size_t index,
+                           uint32_t earlier_missing, size_t earlier);
+
 /* ---- Moving a line to slots of the other size
  *
  * The line is only read, and its slots are written to the target, whose length must be exactly that
@@ -373,7 +396,7 @@ static inline const char *gpos_refusal_text(uint32_t refusal) {
     case GPOS_REFUSED_SLOT: return "a slot's numbers are out of range, or the slot size is wrong";
     case GPOS_REFUSED_INDEX: return "the index or the neighbour is out of place";
     case GPOS_REFUSED_SUBTABLE: return "the subtable is too long, cut, unknown or out of order";
-    case GPOS_REFUSED_ENDLESS: return "the mark's base hangs on a ring of attachments";
+    case GPOS_REFUSED_ENDLESS: return "what the mark goes on hangs on a ring of attachments";
     case GPOS_REFUSED_MOVE: return "the target's length is wrong, or a cluster would be lost";
     default: return "no refusal of this library";
     }
