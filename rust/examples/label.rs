@@ -1,9 +1,10 @@
 //! A label from right to left, from shaped glyphs to drawn places: the Persian word for rooms, ghurfa-ha, with a vowel
 //! mark, two kerned pairs and a ZWNJ. It is examples/label.c in Rust, and draws the same; docs/GUIDE.md, which is the
 //! module `gpos::guide` too, explains the code.
-use gpos::{cursive, finish, mark_base, mark_ligature, pair, single, slots_of, start, write_slots};
+use gpos::{cursive, finish, mark_base, mark_ligature, mark_mark, pair, single, slots_of, start, write_slots};
 use gpos::{At, Direction, Form, Neighbour, Outcome, Refusal, Scale, Slot, WrongForm};
 use gpos::{LOOKUP_IGNORE_BASES, LOOKUP_IGNORE_LIGATURES, LOOKUP_IGNORE_MARKS, NESTING_LIMIT};
+use gpos::{LOOKUP_MARK_ATTACHMENT_CLASS, LOOKUP_USE_MARK_FILTERING_SET};
 use std::error::Error;
 
 // Glyph numbers of a font that is made up here.
@@ -42,16 +43,21 @@ struct Glyph {
     ignorable: bool,
     /// Those that are on at this glyph.
     features: u32,
+    /// GDEF's class of marks, 0 if none.
+    mark_class: u16,
+    /// GDEF's sets of marks that have it, a bit each.
+    mark_sets: u32,
 }
 
 const fn letter(name: &'static str, glyph: u16, advance: u32) -> Glyph {
-    Glyph { name, glyph, advance, class: BASE, ignorable: false, features: KERN | MARKS }
+    let (ignorable, features) = (false, KERN | MARKS);
+    Glyph { name, glyph, advance, class: BASE, ignorable, features, mark_class: 0, mark_sets: 0 }
 }
 
 const COUNT: usize = 8;
 static GLYPHS: [Glyph; COUNT] = [
     letter("ghain", GHAIN, 600),
-    Glyph { class: MARK, ..letter("damma", DAMMA, 200) },
+    Glyph { class: MARK, mark_class: 1, mark_sets: 1 << 0, ..letter("damma", DAMMA, 200) },
     letter("reh", REH, 400),
     letter("feh", FEH, 800),
     letter("heh", HEH_FINAL, 500),
@@ -96,16 +102,19 @@ struct Lookup {
     lookup_type: u16,
     flag: u16,
     feature: u32,
+    /// The number of its set of marks, if the flag says that there is one.
+    mark_set: u16,
     subtables: Vec<Vec<u8>>,
 }
 
 /// A program with a font takes the bytes of a subtable from its GPOS table, by `gpos::subtable`.
 fn lookups() -> [Lookup; 2] {
     let bytes = |words: &[u16]| words.iter().flat_map(|word| word.to_be_bytes()).collect();
-    [
-        Lookup { lookup_type: 2, flag: LOOKUP_IGNORE_MARKS, feature: KERN, subtables: vec![bytes(&KERN_PAIRS)] },
-        Lookup { lookup_type: 4, flag: 0, feature: MARKS, subtables: vec![bytes(&VOWELS_ON_LETTERS)] },
-    ]
+    let lookup = |lookup_type, flag, feature, words: &[u16]| {
+        let (mark_set, subtables) = (0, vec![bytes(words)]);
+        Lookup { lookup_type, flag, feature, mark_set, subtables }
+    };
+    [lookup(2, LOOKUP_IGNORE_MARKS, KERN, &KERN_PAIRS), lookup(4, 0, MARKS, &VOWELS_ON_LETTERS)]
 }
 
 // ---- Filling the slots
@@ -132,8 +141,19 @@ impl Lookup {
         glyph.features & self.feature != 0
     }
 
-    /// Whether the lookup's flag skips the glyph. A font may also choose marks, by class or by set
-    /// (`LOOKUP_MARK_ATTACHMENT_CLASS`, `LOOKUP_USE_MARK_FILTERING_SET`): then the others are skipped too.
+    /// Whether the lookup's flag chooses marks, by set or else by class, and this is another mark.
+    fn leaves_out(&self, glyph: &Glyph) -> bool {
+        let class = (self.flag & LOOKUP_MARK_ATTACHMENT_CLASS) >> 8;
+        if glyph.class != MARK {
+            false
+        } else if self.flag & LOOKUP_USE_MARK_FILTERING_SET != 0 {
+            glyph.mark_sets >> self.mark_set & 1 == 0
+        } else {
+            class != 0 && class != glyph.mark_class
+        }
+    }
+
+    /// Whether the lookup's flag skips the glyph.
     fn skips(&self, glyph: &Glyph) -> bool {
         let bit = match glyph.class {
             BASE => LOOKUP_IGNORE_BASES,
@@ -141,37 +161,42 @@ impl Lookup {
             MARK => LOOKUP_IGNORE_MARKS,
             _ => 0,
         };
-        self.flag & bit != 0
+        self.flag & bit != 0 || self.leaves_out(glyph)
     }
 
-    /// For lookups of type 4 and 5: which glyphs a mark's base is looked for among.
+    /// Whether the lookup, where it looks for a glyph beside the one at hand, sees this one: it takes the first that it
+    /// sees. (This label has no ZWJ, which is seen in the features mark and mkmk.)
+    fn sees(&self, glyph: &Glyph) -> bool {
+        !glyph.ignorable
+            && match self.lookup_type {
+                4 | 5 => glyph.class != MARK && self.has(glyph),
+                6 => !self.leaves_out(glyph), // letters too, whatever the flag: the search ends there
+                _ => !self.skips(glyph),
+            }
+    }
+
+    /// For lookups of type 4 and 5, whose calls look for a mark's base themselves.
     fn set_seen(&self, line: &mut [u8]) -> Result<(), WrongForm> {
         for (bytes, glyph) in line.chunks_exact_mut(FORM.size()).zip(&GLYPHS) {
             let mut slot = Slot::read(bytes)?;
-            let hidden = glyph.class == MARK || glyph.ignorable || !self.has(glyph);
-            slot.flags = slot.flags & !Slot::SEEN | if hidden { 0 } else { Slot::SEEN };
+            slot.flags = slot.flags & !Slot::SEEN | if self.sees(glyph) { Slot::SEEN } else { 0 };
             slot.write(bytes)?;
         }
         Ok(())
     }
 
-    /// Whether a search for a neighbour ends at slot i.
-    fn stops(&self, i: usize) -> bool {
-        !self.skips(&GLYPHS[i]) && !GLYPHS[i].ignorable
-    }
-
     /// The second glyph of a pair.
     fn next_of(&self, i: usize) -> Neighbour {
-        match (i + 1..COUNT).find(|j| self.stops(*j)) {
+        match (i + 1..COUNT).find(|j| self.sees(&GLYPHS[*j])) {
             Some(j) if self.has(&GLYPHS[j]) => Neighbour::Named(j),
             Some(j) => Neighbour::Missing(j + 1),
             None => Neighbour::Missing(COUNT),
         }
     }
 
-    /// The glyph that a cursive one joins.
+    /// The glyph that a cursive one joins, or on which a mark goes if it is a mark too.
     fn previous_of(&self, i: usize) -> Neighbour {
-        match (0..i).rfind(|j| self.stops(*j)) {
+        match (0..i).rfind(|j| self.sees(&GLYPHS[*j])) {
             Some(j) if self.has(&GLYPHS[j]) => Neighbour::Named(j),
             Some(j) => Neighbour::Missing(j.saturating_sub(1)),
             None => Neighbour::Missing(0),
@@ -185,7 +210,8 @@ impl Lookup {
             2 => pair(line, FORM, subtable, at, self.next_of(i)),
             3 => cursive(line, FORM, subtable, at, self.previous_of(i), self.flag),
             4 => mark_base(line, FORM, subtable, at),
-            _ => mark_ligature(line, FORM, subtable, at),
+            5 => mark_ligature(line, FORM, subtable, at),
+            _ => mark_mark(line, FORM, subtable, at, self.previous_of(i)),
         }
     }
 
@@ -206,7 +232,7 @@ impl Lookup {
     /// Says whether it attached.
     fn apply(&self, line: &mut [u8]) -> Result<bool, Box<dyn Error>> {
         match self.lookup_type {
-            1..=3 => {}
+            1..=3 | 6 => {}
             4..=5 => self.set_seen(line)?,
             _ => return Ok(false), // not in the library
         }

@@ -28,8 +28,9 @@ pub enum Refusal {
     /// No more is checked. Other parts that are cut are as good as missing: the call declines, or is applied, and a cut
     /// value record adds nothing. A subtable of another lookup type is not always noticed.
     Subtable,
-    /// 7: a mark's base hangs on a chain of cursive attachments that never ends. On a line that was started, the font's
-    /// cursive lookups hang glyphs in a ring: pass over the subtable. If it wasn't, start it.
+    /// 7: what a mark goes on, base, ligature or mark, hangs on a chain of cursive attachments that never ends. On a
+    /// line that was started, the font's cursive lookups hang glyphs in a ring: pass over the subtable. If it wasn't,
+    /// start it.
     Endless,
     /// 10: the target of a move hasn't the length of the moved line; or, moving back, a cluster is not its slot's
     /// number and would be lost.

@@ -58,4 +58,5 @@ applying! {
     gpos_cursive(previous_missing: u32, previous: usize, lookup_flag: u32);
     gpos_mark_base();
     gpos_mark_ligature();
+    gpos_mark_mark(earlier_missing: u32, earlier: usize);
 }

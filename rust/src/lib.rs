@@ -18,7 +18,8 @@
 //! | 3, cursive attachment | [`cursive`] |
 //! | 4, mark to base | [`mark_base`] |
 //! | 5, mark to ligature | [`mark_ligature`] |
-//! | 6, mark to mark; 7 and 8, contextual | none: labels whose lookups have these types come out incomplete |
+//! | 6, mark to mark | [`mark_mark`] |
+//! | 7 and 8, contextual | none: labels whose lookups have these types come out incomplete |
 //! | 9, extension | none: unwrap it, and apply the subtable to which it leads by that one's type |
 //!
 //! - Device tables and variation deltas are not applied.
@@ -32,14 +33,15 @@
 //! 1. Write the slots, in reading order in every direction ([`write_slots`]), and [`start`] the line. [`Slot`] says
 //!    what its fields hold.
 //! 2. Take the lookups of all the features that you want together, each once, in the order of the font's lookup list,
-//!    and run each over the whole line before the next. Before one of type 4 or 5 set [`Slot::SEEN`], which says on
-//!    which glyphs marks may be put.
+//!    and run each over the whole line before the next. Before one of type 4 or 5 set [`Slot::SEEN`], which says which
+//!    glyphs the search for a mark's base or ligature sees.
 //! 3. A lookup goes from index 0 on. At a glyph that is in its feature and that its flag doesn't skip, try its
 //!    subtables in order: the first that applies ends the turn, and its `next` says where to go on. If none does, go on
 //!    at the next slot. For a pair or a cursive attachment you name the [`Neighbour`]: the nearest glyph that the
 //!    lookup's flag doesn't skip and that is no default ignorable, if it is in the lookup's feature; one outside the
-//!    feature ends the search. On a refusal that [is the font's fault](Refusal::is_font_error) pass over that subtable;
-//!    on any other return the error, since the calling code has a mistake.
+//!    feature ends the search. For a mark on a mark you name an earlier glyph, by a rule of its own ([`mark_mark`]).
+//!    On a refusal that [is the font's fault](Refusal::is_font_error) pass over that subtable; on any other return the
+//!    error, since the calling code has a mistake.
 //! 4. After the last lookup set the advances of marks and of default ignorables to 0, if your shaper does so. Then
 //!    [`finish`] the line, saying whether anything was attached.
 //! 5. Draw: each glyph at pen plus offset, and then the pen moves by the advances. Go from slot 0 up, or from the last
@@ -128,7 +130,7 @@
 //! # Stack and time
 //!
 //! [`cursive`] takes 328 bytes of stack and 80 for each slot of an old chain, 82,248 for one through 1,024 slots;
-//! [`finish`] takes up to 4,176, and the others took up to 464 where they were measured. Every call reads all slots,
+//! [`finish`] takes up to 4,176, and the others took up to 528 where they were measured. Every call reads all slots,
 //! and an applying one every coverage and class list of its subtable, before it does anything: a call costs as much as
 //! they are long, even where it declines.
 //!
@@ -275,18 +277,18 @@ pub struct At {
     pub index: usize,
 }
 
-/// The other glyph of a pair or of a cursive attachment: the nearest glyph that the lookup's flag doesn't skip and that
-/// is no default ignorable, if it is in the lookup's feature. One outside the feature ends the search, and there is
-/// none then.
+/// The other glyph of a pair, of a cursive attachment or of a mark on a mark: the nearest glyph that the lookup's flag
+/// doesn't skip and that is no default ignorable, if it is in the lookup's feature. One outside the feature ends the
+/// search, and there is none then. (For a mark on a mark the flag skips less: see [`mark_mark`].)
 #[derive(Clone, Copy, Debug, PartialEq, Eq, Hash)]
 pub enum Neighbour {
-    /// It is in this slot: after the index for a pair, before it for a cursive attachment.
+    /// It is in this slot: after the index for a pair, before it for a cursive attachment or a mark on a mark.
     Named(usize),
     /// There is none, and this is how far was looked, at most the slot count. Only the hazard of the answer depends on
-    /// it: if you ignore hazards, pass the slot count for a pair and 0 for a cursive attachment.
+    /// it: if you ignore hazards, pass the slot count for a pair, and 0 for the two others.
     ///
-    /// Exactly, it is for a pair one past the last slot that was looked at. For a cursive attachment it is 0; but where
-    /// a glyph outside the feature, at a slot i above 0, ended the search, it is i - 1.
+    /// Exactly, it is for a pair one past the last slot that was looked at. For the two others it is 0; but where a
+    /// glyph outside the feature, at a slot i above 0, ended the search, it is i - 1.
     Missing(usize),
 }
 
@@ -303,7 +305,8 @@ impl Neighbour {
 /// earlier glyph hangs on the later one. It has nothing to do with the direction of the text.
 pub const LOOKUP_RIGHT_TO_LEFT: u16 = 1;
 /// A bit of a lookup's flag: it skips bases, class 1 of GDEF. No call looks at it, nor at those below. They are yours
-/// to go by, where you choose the glyphs at which the lookup is applied and where you look for a [`Neighbour`].
+/// to go by, where you choose the glyphs at which the lookup is applied and where you look for a [`Neighbour`] (for
+/// [`mark_mark`] only the class and the set of marks count there).
 pub const LOOKUP_IGNORE_BASES: u16 = 2;
 /// A bit of a lookup's flag, for you to go by: it skips ligatures, class 2 of GDEF.
 pub const LOOKUP_IGNORE_LIGATURES: u16 = 4;
@@ -423,4 +426,29 @@ pub fn mark_base(line: &mut [u8], form: Form, subtable: &[u8], at: At) -> Result
 /// (6) or [`Refusal::Endless`] (7).
 pub fn mark_ligature(line: &mut [u8], form: Form, subtable: &[u8], at: At) -> Result<Outcome, Refusal> {
     apply!(gpos_mark_ligature, line, form, subtable, at)
+}
+
+/// Mark-to-mark attachment (lookup type 6): attaches the mark to an earlier mark, say a tone mark to a vowel mark.
+///
+/// You name the earlier glyph: search from the index down, and pass over default ignorables and marks that the lookup's
+/// flag leaves out, by class or by set ([`LOOKUP_MARK_ATTACHMENT_CLASS`], [`LOOKUP_USE_MARK_FILTERING_SET`]). Nothing
+/// else is passed over, whatever the flag ignores: take the first that is left, mark or not, if it is in the lookup's
+/// feature ([`Neighbour`]). [`Slot::SEEN`] isn't looked at; what it says of ZWJ is so here too.
+///
+/// The two go together where their [ids](Slot::ligature_id) are equal, and either are 0 or the
+/// [components](Slot::component) are equal too; and where the ids differ, if one of the two is a mark that is a
+/// ligature of glyphs not all marks: its id isn't 0 and its component is (one of marks alone has no id of its own).
+/// Applied, the mark has both offsets anew and hangs on the earlier mark alone, whatever it hung on before.
+///
+/// Declined where the mark is uncovered, without a hazard; where there is no earlier glyph, it isn't a
+/// [mark](Slot::MARK) or the two don't go together, with [`HazardKind::UnsafeToConcat`]; after that, where the earlier
+/// mark is uncovered, or an array or an anchor is missing, without a hazard.
+///
+/// # Errors
+///
+/// [`Refusal::Line`] (1), [`Refusal::Range`] (3), [`Refusal::Slot`] (4), [`Refusal::Index`] (5), [`Refusal::Subtable`]
+/// (6) or [`Refusal::Endless`] (7).
+pub fn mark_mark(line: &mut [u8], form: Form, subtable: &[u8], at: At, earlier: Neighbour) -> Result<Outcome, Refusal> {
+    let (missing, place) = earlier.numbers();
+    apply!(gpos_mark_mark, line, form, subtable, at, missing, place)
 }

@@ -34,16 +34,17 @@ impl Form {
 pub struct Slot {
     /// The glyph's number in the font.
     pub glyph: u16,
-    /// 0 to 7: by it a mark knows its ligature. Where a substitution makes a ligature, the ligature and the marks that
-    /// stood between its components get the same id, another than the ligature before (1 to 7 in turn). Where a
-    /// ligature becomes part of a larger one, its marks get the new id. A ligature of marks alone keeps that of its
-    /// first mark, and glyphs made of one keep that of the one. All others have 0, a mark behind the last component
-    /// too.
+    /// 0 to 7: by it a mark knows its ligature, and whether it may go on an earlier mark. Where a substitution makes a
+    /// ligature, the ligature and the marks that stood between its components get the same id, another than the
+    /// ligature before (1 to 7 in turn). Where a ligature becomes part of a larger one, its marks get the new id. A
+    /// ligature of marks alone keeps that of its first mark, one of a letter and its marks that of the letter, and
+    /// glyphs made of one keep that of the one. All others have 0, a mark behind the last component too.
     pub ligature_id: u8,
     /// 0 to 15. A ligature itself has 0, and a mark with its id the number of the component before it, from 1, counted
-    /// on where the ligature becomes part of a larger one. A ligature of marks alone keeps that of its first mark. Of
-    /// several glyphs that a substitution made of one with id 0, each has its place among them, from 0, modulo 16; of
-    /// one with another id, each keeps its component. All others have 0.
+    /// on where the ligature becomes part of a larger one. A ligature of marks alone keeps that of its first mark, one
+    /// of a letter and its marks that of the letter. Of several glyphs that a substitution made of one with id 0, each
+    /// has its place among them, from 0, modulo 16; of one with another id, each keeps its component. All others have
+    /// 0.
     pub component: u8,
     /// [`Slot::SEEN`], [`Slot::MARK`], [`Slot::MULTIPLIED`]; the other bits are 0.
     pub flags: u8,
@@ -91,23 +92,23 @@ fn take<const N: usize>(bytes: &mut &[u8]) -> Result<[u8; N], WrongForm> {
 }
 
 impl Slot {
-    /// A bit of [`Slot::flags`]: a mark may be put on the glyph. Only [`mark_base`](crate::mark_base) and
-    /// [`mark_ligature`](crate::mark_ligature) look at it. Before each such lookup clear it on marks, on default
-    /// ignorables (ZWNJ, CGJ, SHY and all others that Unicode calls so, unless a substitution made another glyph of
-    /// one) and on glyphs outside the lookup's feature, which the search then passes over; set it on all others,
-    /// whatever the lookup's flag.
+    /// A bit of [`Slot::flags`]: the search for a mark's base or ligature sees the glyph. Only
+    /// [`mark_base`](crate::mark_base) and [`mark_ligature`](crate::mark_ligature) look at it. Before each such lookup
+    /// clear it on marks, on default ignorables (ZWNJ, CGJ, SHY and all others that Unicode calls so, unless a
+    /// substitution made another glyph of one) and on glyphs outside the lookup's feature, which the search then passes
+    /// over; set it on all others, whatever the lookup's flag.
     ///
     /// ZWJ is a default ignorable too, but in lookups of the features mark and mkmk HarfBuzz leaves it seen: a mark
     /// behind a ZWJ stays where it is.
     pub const SEEN: u8 = 1;
     /// A bit of [`Slot::flags`]: the glyph is a mark, class 3 of GDEF. It doesn't hide the glyph from the search for a
-    /// base: a clear [`Slot::SEEN`] does.
+    /// base: a clear [`Slot::SEEN`] does. [`mark_mark`](crate::mark_mark) puts a mark on no glyph without it.
     pub const MARK: u8 = 2;
     /// A bit of [`Slot::flags`]: the glyph is one of several that a substitution made of one. A mark behind them goes
     /// to the first of them, unless the subtable covers another, or, for [`mark_base`](crate::mark_base), a slot stands
     /// between them that is a mark or isn't one of them.
     pub const MULTIPLIED: u8 = 4;
-    /// A value of [`Slot::attach_type`]: a mark on its base or ligature.
+    /// A value of [`Slot::attach_type`]: a mark on its base or ligature, or on another mark.
     pub const ATTACH_MARK: u8 = 1;
     /// A value of [`Slot::attach_type`]: a glyph joined to its neighbour.
     pub const ATTACH_CURSIVE: u8 = 2;
