@@ -2,12 +2,12 @@
 use mathlib.Core.Path.{_≡_, sym, ap, _∙_}
 use mathlib.Core.Bool.{Bool, true, false, and-false}
 use mathlib.Core.List.{List, []}
-use mathlib.Core.Option.{Option}
+use mathlib.Core.Option.{Option, some, none}
 use Prim.Native.Nat.{ℕ, _+_, _*_, _<_}
 use native.Mathlib.Omega.{arith}
 use lib.Dec.{eqb}
 use lib.ListN.{length, drop}
-use borrow.Author.Tests.{lt-leb, ne-eqb}
+use borrow.Author.Tests.{eq-eqb, lt-leb, ne-eqb}
 use Rattle.ints.specs.BigEndian.{AllBytes, natAt}
 use Rattle.ints.specs.Choice.{if_then_else_}
 use Rattle.ints.proofs.BigEndianLaws.{bytes-drop}
@@ -17,10 +17,11 @@ use Rattle.tables.specs.MarkArray.{MarkAnchor, markOf}
 use Rattle.tables.specs.Part.{childOf, offsetThere, tableAt}
 use Rattle.tables.specs.declared.anchor_rows.Rows.{Rows}
 use Rattle.tables.specs.declared.anchor_rows.Rows.the-variants.{Of, Absent}
+use Rattle.targets.specs.Component.{componentIndex}
 use Rattle.targets.specs.MarkPos.{baseArrayOffset, markArrayOffset, markClassCount}
 use Rattle.targets.specs.declared.mark_pos.Target.{Target}
 use Rattle.targets.specs.declared.mark_pos.Target.the-variants.{Base, Ligature}
-use Rattle.marks.specs.Anchors.{missing, anchorsFor, ligatureAttach, ligatureAttachOffsets, ligatureCount, markAt, rowFor, rowless, rowTable, afterMark, afterRows}
+use Rattle.marks.specs.Anchors.{empty, missing, anchorsFor, ligatureAttach, ligatureAttachOffsets, ligatureCount, markAt, rowFor, rowTable, afterMark, afterRow, afterRows}
 
 -- ---- the table with the anchor rows: arr is the array at offset off, as code found it
 module _ (target : Target) (t : List ℕ) (k : ℕ) (arr : List ℕ) (off : ℕ) (read : off ≡ baseArrayOffset t) (is : arr ≡ tableAt t off) where
@@ -60,6 +61,14 @@ rows-bytes Ligature t k h =
     let a : List ℕ = tableAt t (baseArrayOffset t) in
     child-bytes a ligatureAttachOffsets (ligatureCount a) k (table-bytes t (baseArrayOffset t) h)
 
+-- ---- the row of a ligature with n components
+module _ (k n : ℕ) where
+  pub row-none : n ≡ 0 → (mark base : Slot) → none ≡ rowFor Ligature k n mark base
+  row-none h mark base = rw (eq-eqb n 0 h)
+
+  pub row-component : (n ≡ 0 → ⊥) → (mark base : Slot) {c : ℕ} → c ≡ componentIndex n mark base → some c ≡ rowFor Ligature k n mark base
+  row-component h mark base is = rw (ne-eqb n 0 h, is)
+
 -- ---- the anchors, by the number of rows that code found
 module _ (target : Target) (t : List ℕ) (k m : ℕ) (mark base : Slot) (rows : List ℕ) (is : rows ≡ rowTable target t k) (columns : ℕ) (read : columns ≡ markClassCount t)
     (found : Rows) (counted : found ≡ rowsOf rows columns) where
@@ -70,17 +79,19 @@ module _ (target : Target) (t : List ℕ) (k m : ℕ) (mark base : Slot) (rows :
   pub anchors-cut : found ≡ Absent → missing ≡ anchorsFor target t k m mark base
   anchors-cut e = sym (by-rows ∙ ap (afterRows target t k m mark base) e)
 
-  pub anchors-rowless : (n : ℕ) → found ≡ Of n → n ≡ 0 → rowless target ≡ anchorsFor target t k m mark base
-  anchors-rowless n e z = sym (by-rows ∙ ap (afterRows target t k m mark base) (e ∙ ap Of z))
+  -- n rows, and the row that code found
+  module _ (n : ℕ) (e : found ≡ Of n) {row : Option ℕ} (is-row : row ≡ rowFor target k n mark base) where
+    by-row : anchorsFor target t k m mark base ≡ afterRow (rowTable target t k) n (markClassCount t) (markAt t m) row
+    by-row = by-rows ∙ ap (afterRows target t k m mark base) e ∙ ap (afterRow (rowTable target t k) n (markClassCount t) (markAt t m)) (sym is-row)
 
-  pub anchors-with : (n : ℕ) → found ≡ Of n → (n ≡ 0 → ⊥) → (row : ℕ) → row ≡ rowFor target k n mark base
-      → (off : ℕ) → off ≡ markArrayOffset t → (marks : List ℕ) → marks ≡ tableAt t off → (o : Option MarkAnchor) → o ≡ markOf marks m
-      → afterMark rows n columns row o ≡ anchorsFor target t k m mark base
-  anchors-with n e z row is-row off read-off marks is-marks o is-o =
-      let some-rows : afterRows target t k m mark base (Of n) ≡ afterMark (rowTable target t k) n (markClassCount t) (rowFor target k n mark base) (markAt t m) = rw (ne-eqb n 0 z) in
-      let there : o ≡ markAt t m = is-o ∙ ap (λ (l : List ℕ). markOf l m) (is-marks ∙ ap (tableAt t) read-off) in
-      ap (λ (l : List ℕ). afterMark l n columns row o) is
-      ∙ ap (λ (c : ℕ). afterMark (rowTable target t k) n c row o) read
-      ∙ ap (λ (r : ℕ). afterMark (rowTable target t k) n (markClassCount t) r o) is-row
-      ∙ ap (afterMark (rowTable target t k) n (markClassCount t) (rowFor target k n mark base)) there
-      ∙ sym (by-rows ∙ ap (afterRows target t k m mark base) e ∙ some-rows)
+    pub anchors-rowless : row ≡ none → empty ≡ anchorsFor target t k m mark base
+    anchors-rowless z = sym (by-row ∙ ap (afterRow (rowTable target t k) n (markClassCount t) (markAt t m)) z)
+
+    pub anchors-with : (r : ℕ) → row ≡ some r → (off : ℕ) → off ≡ markArrayOffset t → (marks : List ℕ) → marks ≡ tableAt t off → (o : Option MarkAnchor) → o ≡ markOf marks m
+        → afterMark rows n columns r o ≡ anchorsFor target t k m mark base
+    anchors-with r z off read-off marks is-marks o is-o =
+        let there : o ≡ markAt t m = is-o ∙ ap (λ (l : List ℕ). markOf l m) (is-marks ∙ ap (tableAt t) read-off) in
+        ap (λ (l : List ℕ). afterMark l n columns r o) is
+        ∙ ap (λ (c : ℕ). afterMark (rowTable target t k) n c r o) read
+        ∙ ap (afterMark (rowTable target t k) n (markClassCount t) r) there
+        ∙ sym (by-row ∙ ap (afterRow (rowTable target t k) n (markClassCount t) (markAt t m)) z)

@@ -43,10 +43,10 @@ abbrev pub rowTable : Target → List ℕ → ℕ → List ℕ
 rowTable Base t k = tableAt t (baseArrayOffset t)
 rowTable Ligature t k = ligatureAttach (tableAt t (baseArrayOffset t)) k
 
--- the row of base k; of a ligature with n components, the row of the component
-abbrev pub rowFor : Target → ℕ → ℕ → Slot → Slot → ℕ
-rowFor Base k n mark base = k
-rowFor Ligature k n mark base = componentIndex n mark base
+-- the row of base k; of a ligature with n components, the row of the component, which one without components lacks
+abbrev pub rowFor : Target → ℕ → ℕ → Slot → Slot → Option ℕ
+rowFor Base k n mark base = some k
+rowFor Ligature k n mark base = if eqb n 0 then none else some (componentIndex n mark base)
 
 -- the anchors found: the base's and the mark's; or one is missing; or a ligature has no component
 pub data Anchors : Type 0 where
@@ -64,16 +64,15 @@ abbrev pub afterMark : List ℕ → ℕ → ℕ → ℕ → Option MarkAnchor �
 afterMark rows n columns row (some m) = afterBase (m .anchor) (anchorIn rows n columns row (m .class))
 afterMark rows n columns row none = missing
 
--- a table without rows: a BaseArray has no base, a ligature no component
-abbrev pub rowless : Target → Anchors
-rowless Base = missing
-rowless Ligature = empty
+-- the row is known; a ligature without components is reported before the mark is looked at
+abbrev pub afterRow : List ℕ → ℕ → ℕ → Option MarkAnchor → Option ℕ → Anchors
+afterRow rows n columns mark (some row) = afterMark rows n columns row mark
+afterRow rows n columns mark none = empty
 
--- n rows, all there: a ligature without components is reported before the mark is looked at; rows absent: missing
+-- n rows, all there; rows absent: missing
 abbrev pub afterRows : Target → List ℕ → ℕ → ℕ → Slot → Slot → Rows → Anchors
 afterRows target t k m mark base (Of n) =
-    if eqb n 0 then rowless target
-    else afterMark (rowTable target t k) n (markClassCount t) (rowFor target k n mark base) (markAt t m)
+    afterRow (rowTable target t k) n (markClassCount t) (markAt t m) (rowFor target k n mark base)
 afterRows target t k m mark base Absent = missing
 
 -- the anchors by which mark m, in the slot `mark`, attaches to base k, in the slot `base`: the rows must be whole

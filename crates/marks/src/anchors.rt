@@ -20,8 +20,8 @@ ghost use Rattle.slots.specs.code.Shape.{Inside};
 ghost use Rattle.slots.specs.Line.{slot, slots};
 ghost use Rattle.tables.specs.code.Meant.{AnchorNear, Near16, anchorPoint, pointOf, MarkNear, markAnchor};
 ghost use Rattle.targets.specs.MarkPos.{marksGood};
-ghost use Rattle.marks.specs.Anchors.{anchorsFor, rowFor, rowless, rowTable, afterBase, afterMark};
-ghost use Rattle.marks.specs.code.Meant.{anchorsOf, AnchorsNear};
+ghost use Rattle.marks.specs.Anchors.{anchorsFor, rowFor, rowTable, afterBase, afterMark};
+ghost use Rattle.marks.specs.code.Meant.{anchorsOf, AnchorsNear, rowOf};
 
 // The fields of a LigatureArray.
 const LIGATURE_COUNT: usize = 0;
@@ -36,6 +36,12 @@ pub enum Anchors {
     Missing,
     // The ligature has no component.
     Empty,
+}
+
+// The row of anchors to look in, or that there is none.
+pub enum Row {
+    Of(usize),
+    Missing,
 }
 
 // The anchors by which mark m, in slot idx, attaches to base k, in slot b.
@@ -58,10 +64,10 @@ pub fn find_anchors(
     match tables::anchor_rows::rows_of(rows, columns) {
         Rows::Absent => Anchors::Missing,
         Rows::Of(n) => {
-            if n == 0 {
-                return no_rows(target);
-            }
-            let row = row_for(line, shape, target, k, n, idx, b);
+            let found = row_for(line, shape, target, k, n, idx, b);
+            let Row::Of(row) = found else {
+                return Anchors::Empty;
+            };
             let marks = table_at(t, read_u16(t, MARK_ARRAY_OFFSET) as usize);
             after_mark(rows, n, columns, row, tables::mark_array::mark_of(marks, m))
         }
@@ -86,7 +92,7 @@ fn row_table<'a>(t: &'a [u8], target: Target, k: usize) -> &'a [u8]
     }
 }
 
-// The row of base k, or of the mark's component in a ligature of n.
+// The row of base k, or of the mark's component in a ligature of n, if it has any.
 fn row_for(
     line: &[u8],
     shape: Shape,
@@ -95,24 +101,19 @@ fn row_for(
     n: usize,
     idx: usize,
     b: usize,
-) -> usize
-    requires { ⌜ Inside shape (now line) idx × Inside shape (now line) b × (0 < n) ⌝ }
-    ensures { λ r. ⌜ r ≡ rowFor target k n (slot (slots shape (now (line .entry))) idx)
+) -> Row
+    requires { ⌜ Inside shape (now line) idx × Inside shape (now line) b ⌝ }
+    ensures { λ r. ⌜ rowOf r ≡ rowFor target k n (slot (slots shape (now (line .entry))) idx)
         (slot (slots shape (now (line .entry))) b) ⌝ }
 {
     match target {
-        Target::Base => k,
-        Target::Ligature => component_index(line, shape, n, idx, b),
-    }
-}
-
-// A table without rows: a ligature has no component, a base array has no base.
-fn no_rows(target: Target) -> Anchors
-    ensures { λ r. ⌜ (anchorsOf r ≡ rowless target) × AnchorsNear r ⌝ }
-{
-    match target {
-        Target::Base => Anchors::Missing,
-        Target::Ligature => Anchors::Empty,
+        Target::Base => Row::Of(k),
+        Target::Ligature => {
+            if n == 0 {
+                return Row::Missing;
+            }
+            Row::Of(component_index(line, shape, n, idx, b))
+        }
     }
 }
 

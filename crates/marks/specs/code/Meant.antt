@@ -1,5 +1,6 @@
 -- What code's values stand for, and the bounds that code leans on. Assumes nothing.
 use mathlib.Core.List.{[], _∷_}
+use mathlib.Core.Option.{Option, some, none}
 use Prim.Native.Nat.{ℕ, _+_, _-_, _≤_, _<_}
 use Rattle.ints.specs.code.Signed.{val}
 use Rattle.slots.specs.Parent.{chainLimit}
@@ -9,6 +10,8 @@ use Rattle.marks.specs.Anchors.{Anchors, both, missing, empty}
 use Rattle.marks.specs.Plan.{Plan, stop, endless, hang}
 use Rattle.marks.specs.declared.anchors.Anchors.{Anchors as CodeAnchors}
 use Rattle.marks.specs.declared.anchors.Anchors.the-variants.{Both, Missing, Empty}
+use Rattle.marks.specs.declared.anchors.Row.{Row as CodeRow}
+use Rattle.marks.specs.declared.anchors.Row.the-variants.{Of, Missing as NoRow}
 use Rattle.marks.specs.declared.plan.Plan.{Plan as CodePlan}
 use Rattle.marks.specs.declared.plan.Plan.the-variants.{Stop, Miss, Endless, Hang}
 
@@ -17,6 +20,11 @@ abbrev pub anchorsOf : CodeAnchors → Anchors
 anchorsOf (Both base mark) = both (pointOf base) (pointOf mark)
 anchorsOf Missing = missing
 anchorsOf Empty = empty
+
+-- the row to look in, or none
+abbrev pub rowOf : CodeRow → Option ℕ
+rowOf (Of k) = some k
+rowOf NoRow = none
 
 -- the coordinates of anchors found are numbers of 16 bits
 abbrev pub AnchorsNear : CodeAnchors → Type 0
