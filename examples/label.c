@@ -85,9 +85,10 @@ enum { LOOKUPS = sizeof lookups / sizeof *lookups };
 
 /* ---- Filling the slots */
 
-/* Rounded as the library rounds; for numbers that aren't negative. */
+/* To the nearest whole number, a tie away from zero, as the library rounds; C divides toward zero. */
 static int32_t scaled(int64_t v) {
-    return (int32_t)((2 * v * EM_SIZE + UNITS_PER_EM) / (2 * UNITS_PER_EM));
+    int64_t half = v < 0 ? -UNITS_PER_EM : UNITS_PER_EM;
+    return (int32_t)((2 * v * EM_SIZE + half) / (2 * UNITS_PER_EM));
 }
 
 static void fill(void) {

@@ -139,7 +139,7 @@ extern "C" {
 #endif
 
 /* The version of this file and of the library that was installed with it. */
-#define GPOS_VERSION "0.3.0"
+#define GPOS_VERSION "0.4.0"
 #define GPOS_VERSION_MAJOR 0
 #define GPOS_VERSION_MINOR 3
 #define GPOS_VERSION_PATCH 0
@@ -290,8 +290,8 @@ uint32_t gpos_finish(uint8_t *line, size_t line_len, size_t slot_size, uint32_t 
  * off than that counts as cut.
  *
  * The scale: em_size units of the line make one em, and units_per_em of the font (its unitsPerEm).
- * A number v of the font becomes floor((2 v em_size + units_per_em) / (2 units_per_em)): the
- * nearest whole number, the upper one of two. */
+ * A number v of the font becomes v em_size / units_per_em, rounded to the nearest whole number, a tie
+ * away from zero: at half size 3 becomes 2, and -3 becomes -2. */
 
 /* Single adjustment (lookup type 1): adds a value record to the glyph. In vertical text a record's
  * y advance, which counts downward, is subtracted. A record that the subtable's end cuts is applied

@@ -32,7 +32,8 @@ impl Direction {
     }
 }
 
-/// The scale: floor((2vs + u) / 2u) of v
+/// The scale: vs / u to the nearest, a tie away from zero. Rust's division goes toward zero, so half a unit is added
+/// with the sign of v.
 #[derive(Clone, Copy)]
 pub struct Scale {
     s: i64,
@@ -41,7 +42,7 @@ pub struct Scale {
 impl Scale {
     #[inline(always)]
     fn of(self, v: i64) -> i32 {
-        i32::try_from((2 * v * self.s + self.u).div_euclid(2 * self.u)).unwrap()
+        i32::try_from((2 * v * self.s + v.signum() * self.u) / (2 * self.u)).unwrap()
     }
     #[inline(always)]
     pub fn scale_x(self, v: i32) -> i32 {

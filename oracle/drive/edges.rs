@@ -1,4 +1,4 @@
-//! Starting at the limits of lines and of slots' fields, and single adjustment by value records of every size and at the ends of 32 bits.
+//! Starting at the limits of lines and of slots' fields, and single adjustment by value records of every size, at the ends of 32 bits and at ties of the scale.
 use crate::call::*;
 use crate::groups::{covering, cut_each, group, laid, of_glyph, on, single_by, Group};
 use crate::lines::Slot;
@@ -68,6 +68,15 @@ fn at_the_count() -> Vec<Call> {
     [7, 8, 9].map(|glyph| single(of_glyph(glyph), subtable.clone())).into()
 }
 
+/// s, u and a value that lies half way between two whole numbers; at the last, whose u is odd, none does, and the value is nearest to that.
+const TIES: [(u32, u32, i16); 6] = [(500, 1000, 3), (1, 16, 24), (3, 16, 8), (1, 16384, 8192), (32767, 16384, 8192), (1, 17, 8)];
+
+/// Ties, the values beside them, and all of these negated.
+fn at_ties() -> Vec<Call> {
+    let scaled = |s, u, value| Call { s, u, ..single(of_glyph(7), single_by(4, &[value])) };
+    TIES.iter().flat_map(|(s, u, v)| [v - 1, *v, v + 1, 1 - v, -v, -v - 1].map(|value| scaled(*s, *u, value))).collect()
+}
+
 pub fn groups() -> Vec<Group> {
     vec![
         group("starting: lengths and sizes", STARTS.map(start_bytes).into()),
@@ -75,6 +84,7 @@ pub fn groups() -> Vec<Group> {
         group("starting: old attachments", vec![start_attached()]),
         group("single: the worked records in other directions", other_directions()),
         group("single: sums past the ends of 32 bits", past_ends()),
+        group("single: values at ties of the scale and beside them, of either sign", at_ties()),
         group("single: value formats 0, 256, and 255 cut at every byte", formats()),
         group("single: index below the count, at it, glyph not covered", at_the_count()),
     ]

@@ -8,6 +8,7 @@ mod groups;
 mod lines;
 mod list;
 mod long_lines;
+mod mirrored;
 mod moves;
 mod planted;
 mod rng;
@@ -25,15 +26,26 @@ use sides::Side;
 struct Options {
     oracle: Vec<String>,
     port: Vec<String>,
-    calls: usize,
+    calls: Option<usize>,
     seed: u64,
     every: usize,
     workers: usize,
     kinds: Vec<usize>,
     replay: Option<String>,
     planted: bool,
+    mirrored: Option<usize>,
     /// The list of replay, and that of sums.
     lists: Option<[String; 2]>,
+}
+
+impl Options {
+    /// How many random calls.
+    fn calls(&self) -> usize {
+        self.calls.unwrap_or(1_000_000)
+    }
+    fn is_mirrored_alone(&self) -> bool {
+        self.mirrored.is_some() && self.calls.is_none()
+    }
 }
 
 fn fail(text: &str) -> ! {
@@ -55,13 +67,14 @@ fn options() -> Options {
     let mut o = Options {
         oracle: vec![],
         port: vec![],
-        calls: 1_000_000,
+        calls: None,
         seed: 1,
         every: 1,
         workers,
         kinds: (0..NAMES.len()).collect(),
         replay: None,
         planted: false,
+        mirrored: None,
         lists: None,
     };
     let mut words = std::env::args().skip(1);
@@ -70,13 +83,14 @@ fn options() -> Options {
         match word.as_str() {
             "--oracle" => o.oracle = value().split(' ').map(String::from).collect(),
             "--port" => o.port = value().split(' ').map(String::from).collect(),
-            "--calls" => o.calls = number(&value()),
+            "--calls" => o.calls = Some(number(&value())),
             "--seed" => o.seed = number(&value()) as u64,
             "--every" => o.every = number(&value()).max(1),
             "--workers" => o.workers = number(&value()).max(1),
             "--kinds" => o.kinds = kinds(&value()),
             "--replay" => o.replay = Some(value()),
             "--planted" => o.planted = true,
+            "--mirrored" => o.mirrored = Some(number(&value())),
             "--lists" => o.lists = Some([value(), value()]),
             _ => fail(&format!("unknown word {word}")),
         }
@@ -103,7 +117,7 @@ fn show(call: &Call, oracle: &mut Side, port: &mut Side) -> bool {
 
 fn compare(o: &Options, kinds: &[usize]) -> bool {
     let began = std::time::Instant::now();
-    let jobs = compare::plan(kinds, o.calls, o.seed, o.every);
+    let jobs = compare::plan(kinds, o.calls(), o.seed, o.every);
     let (tally, found) = compare::run(&jobs, &o.oracle, &o.port, o.workers);
     compare::show(&tally);
     let all: usize = tally.values().sum();
@@ -137,9 +151,10 @@ fn main() {
         let call = unhex(text).and_then(|b| Call::parse(&b)).unwrap_or_else(|| fail("that is not the hex of a call"));
         show(&call, &mut Side::start(&o.oracle), &mut Side::start(&o.port))
     } else if o.planted {
-        planted::run(&kinds, &o.oracle, &o.port, o.calls, o.seed)
+        planted::run(&kinds, &o.oracle, &o.port, o.calls(), o.seed)
     } else {
-        compare(&o, &kinds)
+        let mirrors = || o.mirrored.is_none_or(|n| mirrored::run(&kinds, &mut Side::start(&o.port), n, o.seed));
+        (o.is_mirrored_alone() || compare(&o, &kinds)) && mirrors()
     };
     std::process::exit(if good { 0 } else { 1 });
 }

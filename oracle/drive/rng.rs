@@ -1,13 +1,17 @@
 //! Numbers that look random, the same for the same seed (splitmix64).
-pub struct Rng(u64);
+pub struct Rng {
+    state: u64,
+    /// What is made of each value and coordinate that is drawn for a subtable.
+    pub value: fn(i16) -> i16,
+}
 
 impl Rng {
     pub fn new(seed: u64) -> Self {
-        Self(seed)
+        Self { state: seed, value: |v| v }
     }
     pub fn next(&mut self) -> u64 {
-        self.0 = self.0.wrapping_add(0x9E37_79B9_7F4A_7C15);
-        let mut z = self.0;
+        self.state = self.state.wrapping_add(0x9E37_79B9_7F4A_7C15);
+        let mut z = self.state;
         z = (z ^ (z >> 30)).wrapping_mul(0xBF58_476D_1CE4_E5B9);
         z = (z ^ (z >> 27)).wrapping_mul(0x94D0_49BB_1331_11EB);
         z ^ (z >> 31)

@@ -101,11 +101,12 @@ fn class_list(r: &mut Rng, classes: usize, odds: usize) -> Vec<u8> {
 }
 
 fn value(r: &mut Rng) -> u16 {
-    match r.below(6) {
+    let drawn = match r.below(6) {
         0 => 0,
-        1 => r.pick(&[1, 0xFFFF, 0x7FFF, 0x8000, 0x8001]),
-        _ => (r.below(401) as i16 - 200) as u16,
-    }
+        1 => r.pick(&[1, -1, i16::MAX, i16::MIN, i16::MIN + 1]),
+        _ => r.below(401) as i16 - 200,
+    };
+    (r.value)(drawn) as u16
 }
 
 fn value_format(r: &mut Rng, odds: usize) -> u16 {

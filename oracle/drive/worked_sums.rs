@@ -94,7 +94,7 @@ fn records() -> Vec<Sum> {
     let in_pair = |format, values| pair(2, [format, 0], values);
     vec![
         scaled(3, 2),
-        scaled(-3, -1),
+        scaled(-3, -2),
         sum(
             "P2: value format 5, record FF F6 00 14, in direction 0 adds -10 to the x offset and 20 to the x advance",
             p2(0),

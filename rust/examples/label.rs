@@ -36,7 +36,7 @@ struct Glyph {
     name: &'static str,
     glyph: u16,
     /// In units of the font.
-    advance: u32,
+    advance: i32,
     /// 0 if GDEF has none.
     class: u16,
     /// A default ignorable that no substitution has replaced.
@@ -49,7 +49,7 @@ struct Glyph {
     mark_sets: u32,
 }
 
-const fn letter(name: &'static str, glyph: u16, advance: u32) -> Glyph {
+const fn letter(name: &'static str, glyph: u16, advance: i32) -> Glyph {
     let (ignorable, features) = (false, KERN | MARKS);
     Glyph { name, glyph, advance, class: BASE, ignorable, features, mark_class: 0, mark_sets: 0 }
 }
@@ -119,16 +119,17 @@ fn lookups() -> [Lookup; 2] {
 
 // ---- Filling the slots
 
-/// Rounded as the library rounds; for numbers that aren't negative.
-fn scaled(v: u32) -> u32 {
-    (2 * v * SCALE.em_size + SCALE.units_per_em) / (2 * SCALE.units_per_em)
+/// To the nearest whole number, a tie away from zero, as the library rounds; Rust divides toward zero.
+fn scaled(v: i32) -> i32 {
+    let [v, em_size, units_per_em] = [v.into(), SCALE.em_size.into(), SCALE.units_per_em.into()];
+    ((2 * v * em_size + v.signum() * units_per_em) / (2 * units_per_em)) as i32
 }
 
 fn fill(line: &mut [u8]) -> Result<(), WrongForm> {
     let slots = GLYPHS.each_ref().map(|glyph| Slot {
         glyph: glyph.glyph,
         flags: if glyph.class == MARK { Slot::MARK } else { 0 },
-        x_advance: scaled(glyph.advance) as i32,
+        x_advance: scaled(glyph.advance),
         ..Slot::default()
     });
     write_slots(line, FORM, &slots)

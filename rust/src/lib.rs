@@ -195,8 +195,8 @@ impl Direction {
 
 /// From the font's design units to those of the line, alike for x and y.
 ///
-/// A design value `v` becomes `floor((2 * v * em_size + units_per_em) / (2 * units_per_em))`, which is
-/// `v * em_size / units_per_em` to the nearest, halves upward.
+/// A design value `v` becomes `v * em_size / units_per_em`, rounded to the nearest whole number, a tie away from zero: at
+/// half size 3 becomes 2, and -3 becomes -2.
 #[derive(Clone, Copy, Debug, PartialEq, Eq, Hash)]
 pub struct Scale {
     /// How many units of the line's advances and offsets make one em, 1 to 32,768.

@@ -5,7 +5,7 @@ use Prim.Native.Nat.{ℕ}
 use lib.IntN.{ℤ, pos}
 use Rattle.ints.specs.BigEndian.{natAt}
 use Rattle.ints.specs.Saturating.{clamp32, minus}
-use Rattle.ints.specs.Scale.{floorDiv, scaled}
+use Rattle.ints.specs.Scale.{scaled}
 use Rattle.ints.specs.Signed.{intAt, signed}
 use Rattle.ints.specs.Tally.{bit, tally}
 use Rattle.slots.specs.Line.{update}
@@ -29,7 +29,7 @@ spotAt x y = record { x = x; y = y }
 pub bottom-to-top : joinedAt 1000 1000 BottomToTop 0 0 1 (spotAt (pos 20) (pos 500)) (spotAt (pos 5) (pos 30))
     (glyphSlot 5 0 (pos 0) (pos 0) (pos 600) (pos 0) (pos 0) ∷ glyphSlot 6 0 (pos 0) (pos 0) (pos 600) (pos 0) (pos 7) ∷ [])
     ≡ glyphSlot 5 0 (pos 0) (pos 0) (pos 100) (pos 0) (minus 500) ∷ glyphSlot 6 2 (minus 1) (pos 0) (pos 30) (pos 15) (pos 7) ∷ []
-unfolding joinedAt tied separatedBy reversed reversedIn turned cleared attachedCount tally bit update parent scaled floorDiv clamp32
+unfolding joinedAt tied separatedBy reversed reversedIn turned cleared attachedCount tally bit update parent scaled clamp32
 bottom-to-top = refl
 
 -- ---- at the ends
@@ -55,13 +55,13 @@ plans = refl
 pub separates : joinedAt 1000 1000 LeftToRight 0 0 1 (spotAt (pos 500) (pos 20)) (spotAt (pos 30) (pos 5))
     (glyphSlot 5 1 (pos 1) (pos 600) (pos 0) (pos 0) (pos 9) ∷ glyphSlot 6 0 (pos 0) (pos 600) (pos 0) (pos 0) (pos 0) ∷ [])
     ≡ glyphSlot 5 1 (pos 0) (pos 500) (pos 0) (pos 0) (pos 0) ∷ glyphSlot 6 2 (minus 1) (pos 570) (pos 0) (minus 30) (pos 15) ∷ []
-unfolding joinedAt tied separatedBy reversed reversedIn turned cleared attachedCount tally bit update parent scaled floorDiv clamp32
+unfolding joinedAt tied separatedBy reversed reversedIn turned cleared attachedCount tally bit update parent scaled clamp32
 separates = refl
 
 -- right to left, RIGHT_TO_LEFT set among other flags: slot 0, the child, is pulled back by 40 + 10, slot 1's advance is 300 + 7; each of the four numbers is scaled
--- by itself: at half size the exit y 3 is 2, so that the difference is -2; scaled once it were -1
-pub right-to-left : joinedAt 500 1000 RightToLeft 65535 0 1 (spotAt (pos 80) (pos 3)) (spotAt (pos 600) (pos 0))
+-- by itself: at half size the exit y 3 is 2 and the entry y -1 is -1, so that the difference is -3; scaled once it were -2
+pub right-to-left : joinedAt 500 1000 RightToLeft 65535 0 1 (spotAt (pos 80) (pos 3)) (spotAt (pos 600) (minus 1))
     (glyphSlot 5 0 (pos 0) (pos 600) (pos 0) (pos 10) (pos 1) ∷ glyphSlot 6 0 (pos 0) (pos 500) (pos 0) (pos 7) (pos 1) ∷ [])
-    ≡ glyphSlot 5 2 (pos 1) (pos 550) (pos 0) (minus 40) (minus 2) ∷ glyphSlot 6 0 (pos 0) (pos 307) (pos 0) (pos 7) (pos 1) ∷ []
-unfolding joinedAt tied separatedBy reversed reversedIn turned cleared attachedCount tally bit update parent scaled floorDiv clamp32
+    ≡ glyphSlot 5 2 (pos 1) (pos 550) (pos 0) (minus 40) (minus 3) ∷ glyphSlot 6 0 (pos 0) (pos 307) (pos 0) (pos 7) (pos 1) ∷ []
+unfolding joinedAt tied separatedBy reversed reversedIn turned cleared attachedCount tally bit update parent scaled clamp32
 right-to-left = refl

@@ -4,7 +4,7 @@ use mathlib.Core.Bool.{Bool, true, false, not, cond}
 use Prim.Native.Nat.{ℕ, zero, suc, _+_, _*_, _-_, _<_, _≤_}
 use native.Mathlib.Omega.{arith}
 use lib.Dec.{T, ltb, ltb→lt, nltb→le, leb→le, le→leb}
-use lib.IntN.{ℤ, pos, negsuc, negℤ, subℕ, _+ℤ_, _-ℤ_, _*ℤ_, *ℤ-comm, negℤ-+ℤ}
+use lib.IntN.{ℤ, pos, negsuc, negℤ, subℕ, _+ℤ_, _-ℤ_, _*ℤ_, negℤ-+ℤ}
 use lib.Signed.{ltZ, leZ, _≤ℤ_}
 use borrow.Author.Tests.{lt-ltb, le-ltb}
 
@@ -110,17 +110,8 @@ negsuc-diff n = same (negsuc n) (diff 0 (suc n)) (simp (up-diff, dn-diff) (omega
 pub sub-pos : (a b : ℕ) → pos a -ℤ pos b ≡ diff a b
 sub-pos a b = same (pos a -ℤ pos b) (diff a b) (omega (arith, bal-add (pos a) (negℤ (pos b)), up-neg (pos b), dn-neg (pos b), bal a b))
 
-pub add-diff-pos : (a b c : ℕ) → diff a b +ℤ pos c ≡ diff (a + c) b
-add-diff-pos a b c = rw (pos-diff c, add-diff a b c 0) (eq-diff (a + c) (b + 0) (a + c) b (omega arith))
-
 pub pos-add-diff : (a b c : ℕ) → pos c +ℤ diff a b ≡ diff (c + a) b
 pos-add-diff a b c = rw (pos-diff c, add-diff c 0 a b) (eq-diff (c + a) (0 + b) (c + a) b (omega arith))
-
-pub mul-diff : (a b k : ℕ) → diff a b *ℤ pos k ≡ diff (a * k) (b * k)
-mul-diff a b k = same (diff a b *ℤ pos k) (diff (a * k) (b * k)) (rw (up-mul (diff a b) k, dn-mul (diff a b) k) (omega (arith, ap (λ (n : ℕ). n * k) (bal a b), bal (a * k) (b * k))))
-
-pub pos-mul-diff : (k a b : ℕ) → pos k *ℤ diff a b ≡ diff (k * a) (k * b)
-pos-mul-diff k a b = *ℤ-comm (pos k) (diff a b) ∙ mul-diff a b k ∙ eq-diff (a * k) (b * k) (k * a) (k * b) (omega arith)
 
 -- ---- the order
 pub lt-diff : (a b c d : ℕ) → ltZ (diff a b) (diff c d) ≡ ltb (a + d) (c + b)

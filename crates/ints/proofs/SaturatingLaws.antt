@@ -11,9 +11,9 @@ use Rattle.ints.specs.Signed.{InBytes, signed}
 use Rattle.ints.specs.code.Signed.{val}
 use Rattle.ints.specs.Saturating.{clamp32, satSub, minus, satNeg, satAdd}
 use Rattle.ints.specs.code.Saturating.{unlifted}
-use Rattle.ints.proofs.Ints.{add-diff, diff, diff-of, dn, dn-diff, eq-diff, lt-diff, neg-diff, one-side, sub-pos, up, up-diff}
+use Rattle.ints.proofs.Ints.{add-diff, diff, diff-of, dn, eq-diff, lt-diff, neg-diff, one-side, sub-pos, up}
 use Rattle.ints.proofs.SignedLaws.{signed-high, signed-low}
-use Rattle.ints.proofs.SizeLaws.{abs-add, abs-neg, abs-parts, abs-sub, mag-abs, mag-up}
+use Rattle.ints.proofs.SizeLaws.{abs-add, abs-neg, abs-sub, apart, mag-abs, mag-up}
 
 -- ---- clamping, of an integer a - b
 low-test : (a b : ℕ) → ltZ (diff a b) (minus 2147483648) ≡ ltb (a + 2147483648) (0 + b)
@@ -61,12 +61,6 @@ clamp-fits z = by-clamp (λ w. InBytes 4 w) z (λ l. omega arith) (λ h. omega a
     inside : (z : ℤ) → dn z ≤ up z + 2147483648 → up z ≤ dn z + 2147483647 → mag z < 2147483648
     inside (pos n) l h = omega arith
     inside (negsuc n) l h = omega arith
-
--- how far apart two integers are, by their parts
-apart : (z y : ℤ) → natAbs (z -ℤ y) ≡ ((up z + dn y) - (dn z + up y)) + ((dn z + up y) - (up z + dn y))
-apart z y =
-    ap natAbs (ap (λ w. w -ℤ y) (sym (diff-of z)) ∙ ap (λ w. diff (up z) (dn z) -ℤ w) (sym (diff-of y)))
-    ∙ rw (neg-diff, add-diff, abs-parts, up-diff, dn-diff)
 
 pub clamp-nearest : (z y : ℤ) → InBytes 4 y → natAbs (z -ℤ clamp32 z) ≤ natAbs (z -ℤ y)
 clamp-nearest z y h = by-clamp (λ w. natAbs (z -ℤ w) ≤ natAbs (z -ℤ y)) z
@@ -116,13 +110,6 @@ module _ (x w : ℕ) where
 
   pub lifted-less : unlifted (min (x + 2147483648 - w) 4294967295) ≡ satSub (unlifted x) (unlifted w)
   lifted-less = clamp-lifted (x + 2147483648) w ∙ rw (sub-pos x 2147483648, sub-pos w 2147483648, neg-diff, add-diff) (ap clamp32 (eq-diff _ _ _ _ (omega arith)))
-
--- a number near zero, lifted, is near 2 ^ 31
-pub near-lifted : (n k : ℕ) (z : ℤ) → pos n -ℤ pos 2147483648 ≡ z → natAbs z ≤ k → (2147483648 ≤ n + k) × (n ≤ 2147483648 + k)
-near-lifted n k z e h =
-    let f : natAbs (diff n 2147483648) ≡ natAbs z = ap natAbs (sym (sub-pos n 2147483648) ∙ e) in
-    let g : (n - 2147483648) + (2147483648 - n) ≡ natAbs z = simp (abs-parts (diff n 2147483648), up-diff, dn-diff) at f in
-    omega arith
 
 -- a sum, a difference and a negation of lifted numbers, each held 2 ^ 32 higher
 module _ (x y : ℕ) where

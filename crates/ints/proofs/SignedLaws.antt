@@ -29,6 +29,13 @@ module _ (w n a b : ℕ) where
   unfolding signed
   signed-high h e = simp (le-ltb n (half w) h) (sub-pos n (256 ^ w) ∙ eq-diff n (256 ^ w) a b e)
 
+-- and by its sign
+pub signed-pos : (w n : ℕ) → n < half w → signed w n ≡ pos n
+signed-pos w n h = signed-low w n n 0 h (omega arith) ∙ sym (pos-diff n)
+
+pub signed-neg : (w n : ℕ) → half w ≤ n → n < 256 ^ w → signed w n ≡ negsuc (256 ^ w - suc n)
+signed-neg w n h k = signed-high w n 0 (suc (256 ^ w - suc n)) h (omega arith) ∙ sym (negsuc-diff (256 ^ w - suc n))
+
 -- the pattern of an integer of w bytes is a pattern of w bytes, and stands for that integer
 pub pattern-fits : (w : ℕ) (z : ℤ) → InBytes w z → pattern w z < 256 ^ w
 unfolding pattern

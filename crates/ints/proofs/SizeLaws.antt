@@ -1,10 +1,10 @@
 -- Laws of an integer's absolute value. Assumes nothing.
-use mathlib.Core.Path.{_≡_, ap}
-use Prim.Native.Nat.{ℕ, suc, _+_, _≤_}
+use mathlib.Core.Path.{_≡_, sym, ap, _∙_}
+use Prim.Native.Nat.{ℕ, suc, _+_, _-_, _≤_}
 use native.Mathlib.Omega.{arith}
 use lib.IntN.{ℤ, pos, negsuc, negℤ, natAbs, _+ℤ_, _-ℤ_}
 use lib.Signed.{mag}
-use Rattle.ints.proofs.Ints.{diff, dn, dn-add, dn-diff, dn-neg, up, up-add, up-diff, up-neg}
+use Rattle.ints.proofs.Ints.{add-diff, diff, diff-of, dn, dn-add, dn-diff, dn-neg, neg-diff, up, up-add, up-diff, up-neg}
 
 -- mag z, which bounds a number of two's complement, is n for n and for -(n + 1)
 pub mag-up : (z : ℤ) → (up z ≤ mag z) × (dn z ≤ suc (mag z))
@@ -36,3 +36,9 @@ abs-sub z w = omega (arith, abs-add z (negℤ w), abs-neg w)
 
 pub abs-diff : (a b k : ℕ) → a ≤ b + k → b ≤ a + k → natAbs (diff a b) ≤ k
 abs-diff a b k h l = simp (abs-parts, up-diff, dn-diff) (omega arith)
+
+-- how far apart two integers are, by their parts
+pub apart : (z y : ℤ) → natAbs (z -ℤ y) ≡ ((up z + dn y) - (dn z + up y)) + ((dn z + up y) - (up z + dn y))
+apart z y =
+    ap natAbs (ap (λ w. w -ℤ y) (sym (diff-of z)) ∙ ap (λ w. diff (up z) (dn z) -ℤ w) (sym (diff-of y)))
+    ∙ rw (neg-diff, add-diff, abs-parts, up-diff, dn-diff)

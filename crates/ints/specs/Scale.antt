@@ -1,6 +1,7 @@
 -- The scale: from a font's units, u of which make one em, to the line's, s of which do. Assumes nothing.
-use Prim.Native.Nat.{ℕ, _*_, _/_}
-use lib.IntN.{ℤ, pos, negsuc, _+ℤ_, _*ℤ_}
+use Prim.Native.Nat.{ℕ, _+_, _*_, _/_}
+use lib.IntN.{ℤ, pos, negsuc, natAbs}
+use Rattle.ints.specs.Saturating.{minus}
 
 -- s is from 1 to 32,768, u from 16 to 16,384
 abbrev pub mostS : ℕ
@@ -12,11 +13,16 @@ leastUpem = 16
 abbrev pub mostUpem : ℕ
 mostUpem = 16384
 
--- the largest integer that is not above z / m
-unfoldable pub floorDiv : ℤ → ℕ → ℤ
-floorDiv (pos a) m = pos (a / m)
-floorDiv (negsuc a) m = negsuc (a / m)
+-- n / m to the nearest whole number, the upper one at a tie: floor((2n + m) / 2m)
+abbrev pub rounded : ℕ → ℕ → ℕ
+rounded n m = (2 * n + m) / (2 * m)
 
--- v at the scale s / u: floor((2vs + u) / 2u)
+-- the size n with the sign of v
+abbrev pub withSignOf : ℤ → ℕ → ℤ
+withSignOf (pos _) n = pos n
+withSignOf (negsuc _) n = minus n
+
+-- v at the scale s / u: its size at that scale, rounded, with its sign. So a tie goes away from zero, and - v becomes
+-- the mirror of what v becomes.
 unfoldable pub scaled : ℤ → ℕ → ℕ → ℤ
-scaled v s u = floorDiv (pos 2 *ℤ v *ℤ pos s +ℤ pos u) (2 * u)
+scaled v s u = withSignOf v (rounded (natAbs v * s) u)

@@ -21,7 +21,7 @@ const MOST_RAISED: u64 = WHOLE32 + HALF32 - 1;
 const ZERO_TWICE: u64 = WHOLE32 + HALF32;
 
 // The lowest and the highest number of 32 bits, as bits.
-const LOWEST: Signed = 2147483648;
+pub const LOWEST: Signed = 2147483648;
 
 const HIGHEST: Signed = 2147483647;
 

@@ -7,7 +7,7 @@ use lib.IntN.{pos, negsuc}
 use Rattle.ints.proofs.Examples.{words}
 use Rattle.ints.specs.BigEndian.{natAt}
 use Rattle.ints.specs.Saturating.{clamp32}
-use Rattle.ints.specs.Scale.{floorDiv, scaled}
+use Rattle.ints.specs.Scale.{scaled}
 use Rattle.ints.specs.Signed.{intAt, signed}
 use Rattle.slots.specs.Slot.{Slot}
 use Rattle.slots.specs.Line.{slot, update}
@@ -117,7 +117,7 @@ pub record Worked : Type 0 where
   pub good : map marksGood (subtable 4 ∷ parts 0 0 whole ∷ parts 18 24 (1 ∷ []) ∷ []) ≡ (true ∷ true ∷ true ∷ [])
 
 pub worked : Worked
-unfolding ascends firstHolding spanAt spansFrom natAt intAt signed clamp32 floorDiv scaled update parent
+unfolding ascends firstHolding spanAt spansFrom natAt intAt signed clamp32 scaled update parent
     anchorsFor baseIndex markIndex marksGood stacks placeFor planOf crossOffset crossOffsetIn
 worked = record {
   no-ids = refl;

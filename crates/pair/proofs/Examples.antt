@@ -7,7 +7,7 @@ use lib.IntN.{ℤ, pos}
 use Rattle.ints.proofs.Examples.{words}
 use Rattle.ints.specs.BigEndian.{natAt}
 use Rattle.ints.specs.Saturating.{clamp32, minus}
-use Rattle.ints.specs.Scale.{floorDiv, scaled}
+use Rattle.ints.specs.Scale.{scaled}
 use Rattle.ints.specs.Signed.{intAt, signed}
 use Rattle.slots.specs.Axis.{directionOf}
 use Rattle.slots.specs.Slot.{Slot, noSlot}
@@ -96,7 +96,7 @@ table =
 
 -- each is as it should be
 pub computed : map (λ (x : Row). x .done) table ≡ map (λ (x : Row). x .right) table
-unfolding natAt clamp32 floorDiv scaled intAt signed update ascends firstHolding spanAt spansFrom setBelow effectOf fieldsWork valued withFields worked headerGood classesGood pairGood probeIn planOf
+unfolding natAt clamp32 scaled intAt signed update ascends firstHolding spanAt spansFrom setBelow effectOf fieldsWork valued withFields worked headerGood classesGood pairGood probeIn planOf
 computed = refl
 
 -- ---- at the ends
@@ -128,5 +128,5 @@ ends =
     ∷ []
 
 pub at-ends : map (λ (x : Row). x .done) ends ≡ map (λ (x : Row). x .right) ends
-unfolding natAt clamp32 floorDiv scaled intAt signed update ascends firstHolding spanAt spansFrom setBelow effectOf fieldsWork valued withFields worked headerGood classesGood pairGood probeIn planOf
+unfolding natAt clamp32 scaled intAt signed update ascends firstHolding spanAt spansFrom setBelow effectOf fieldsWork valued withFields worked headerGood classesGood pairGood probeIn planOf
 at-ends = refl

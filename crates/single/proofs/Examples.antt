@@ -8,7 +8,7 @@ use lib.ListN.{take}
 use Rattle.ints.proofs.Examples.{words}
 use Rattle.ints.specs.BigEndian.{natAt}
 use Rattle.ints.specs.Saturating.{clamp32}
-use Rattle.ints.specs.Scale.{floorDiv, scaled}
+use Rattle.ints.specs.Scale.{scaled}
 use Rattle.ints.specs.Signed.{intAt, signed}
 use Rattle.slots.specs.Axis.{directionOf}
 use Rattle.slots.specs.Slot.{Slot, noSlot}
@@ -73,7 +73,7 @@ table =
 
 -- each is as it should be
 pub computed : map (λ (x : Row). x .done) table ≡ map (λ (x : Row). x .right) table
-unfolding natAt clamp32 floorDiv scaled intAt signed setBelow effectOf valued withFields update ascends firstHolding spanAt spansFrom placeFor
+unfolding natAt clamp32 scaled intAt signed setBelow effectOf valued withFields update ascends firstHolding spanAt spansFrom placeFor
 computed = refl
 
 -- the check: the three are good; a header cut in either format, the formats 0 and 3, the value format 256 and a cut coverage table are not
@@ -100,13 +100,13 @@ ends =
     ∷ []
 
 pub at-ends : map (λ (x : Row). x .done) ends ≡ map (λ (x : Row). x .right) ends
-unfolding natAt clamp32 floorDiv scaled intAt signed setBelow effectOf valued withFields update ascends firstHolding spanAt spansFrom placeFor
+unfolding natAt clamp32 scaled intAt signed setBelow effectOf valued withFields update ascends firstHolding spanAt spansFrom placeFor
 at-ends = refl
 
 -- an offset into the header is read as given: the value format 1 is the coverage's format, and the value, x placement 2, its count
 pub into-header : singled 1000 1000 (directionOf 0) (words (1 ∷ 4 ∷ 1 ∷ 2 ∷ 5 ∷ 7 ∷ [])) 0 (wide 5 0 ∷ [])
     ≡ withGlyph 5 (withPlace (pos 0) (pos 0) (pos 2) (pos 0) noSlot) ∷ []
-unfolding natAt clamp32 floorDiv scaled intAt signed setBelow effectOf valued withFields update firstHolding spanAt spansFrom placeFor
+unfolding natAt clamp32 scaled intAt signed setBelow effectOf valued withFields update firstHolding spanAt spansFrom placeFor
 into-header = refl
 
 -- headers alone, with coverage offset 0 and value format 255, are good; no bytes, and a coverage at the end or past it, are not

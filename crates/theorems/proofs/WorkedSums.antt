@@ -7,7 +7,7 @@ use lib.IntN.{ℤ, pos}
 use lib.ListN.{length}
 use Rattle.ints.specs.BigEndian.{digits, natAt}
 use Rattle.ints.specs.Saturating.{clamp32, minus}
-use Rattle.ints.specs.Scale.{floorDiv, scaled}
+use Rattle.ints.specs.Scale.{scaled}
 use Rattle.ints.specs.Signed.{intAt, pattern, signed}
 use Rattle.ints.specs.Sums.{stepwise}
 use Rattle.ints.specs.Tally.{bit, tally, nearest}
@@ -154,7 +154,7 @@ abbrev pub table : ℕ → List Row
 table z =
     -- P1: at s 500 and u 1000 the values 3 and -3 are 2 and -1
     row (single z 500 1000 5 (values (pos 3 ∷ minus 3 ∷ [])) 0)
-    (becomes 500 1000 (pos 3) (pos 2) ∷ becomes 500 1000 (minus 3) (minus 1) ∷ xOffset 0 (pos 2) ∷ xAdvance 0 (minus 1) ∷ [])
+    (becomes 500 1000 (pos 3) (pos 2) ∷ becomes 500 1000 (minus 3) (minus 2) ∷ xOffset 0 (pos 2) ∷ xAdvance 0 (minus 2) ∷ [])
     -- P2: the record FF F6 00 14 of format 5: in direction 0 -10 for the x offset, 20 for the x advance; in direction 2 only the first; it has worked in both
     ∷ row (single z 1000 1000 5 record-P2 0)
     (xOffset 0 (minus 10) ∷ xAdvance 0 (pos 20) ∷ worked 0 5 record-P2 true ∷ [])
@@ -191,7 +191,7 @@ table z =
 -- each figure by the definitions is the one that the rules give, with clusters and without
 pub worked-sums : (map (λ (x : Row). x .found) (table 24) ≡ map (λ (x : Row). x .given) (table 24))
     × (map (λ (x : Row). x .found) (table 28) ≡ map (λ (x : Row). x .given) (table 28))
-unfolding natAt digits pattern intAt signed clamp32 floorDiv scaled stepwise bit tally some bytes plainBytes slotOf slots slotsN update parent
+unfolding natAt digits pattern intAt signed clamp32 scaled stepwise bit tally some bytes plainBytes slotOf slots slotsN update parent
     ascends firstHolding spanAt spansFrom setBelow effectOf fieldsWork valued withFields recordWorked headerGood placeFor singleGood
     classesGood pairGood probeIn pairPlan joinedAt separatedBy tied attachedCount cursivePlan reversed reversedIn turned
     anchorsFor baseIndex markIndex marksGood markPlace markPlan nearest stopsAt crossOffset crossOffsetIn cleared finished takenIn settled settledUp shifted

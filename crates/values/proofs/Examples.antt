@@ -6,7 +6,7 @@ use Prim.Native.Nat.{ℕ}
 use lib.IntN.{ℤ, pos}
 use Rattle.ints.specs.BigEndian.{natAt}
 use Rattle.ints.specs.Saturating.{clamp32, minus}
-use Rattle.ints.specs.Scale.{floorDiv, scaled}
+use Rattle.ints.specs.Scale.{scaled}
 use Rattle.ints.specs.Signed.{intAt, signed}
 use Rattle.slots.specs.Axis.{directionOf}
 use Rattle.slots.specs.Slot.{Slot, noSlot}
@@ -45,7 +45,7 @@ table =
 
 -- each is as it should be
 pub computed : map (λ (x : Row). x .done) table ≡ map (λ (x : Row). x .right) table
-unfolding natAt clamp32 floorDiv scaled intAt signed setBelow effectOf fieldsWork valued withFields worked
+unfolding natAt clamp32 scaled intAt signed setBelow effectOf fieldsWork valued withFields worked
 computed = refl
 
 -- ---- at the ends
@@ -65,16 +65,16 @@ ends =
     -- the advance that applies is 0, the other is not: it has worked by direction alone
     ∷ row 12 (0 ∷ 0 ∷ 0 ∷ 20 ∷ []) 0 1000 1000 (pos 0) (pos 0) (pos 0) (pos 0) false
     ∷ row 12 (0 ∷ 0 ∷ 0 ∷ 20 ∷ []) 2 1000 1000 (pos 0) (pos 0) (pos 0) (minus 20) true
-    -- y advance is scaled first and then subtracted: -3 at half size is -1
-    ∷ row 8 (255 ∷ 253 ∷ []) 2 500 1000 (pos 0) (pos 0) (pos 0) (pos 1) true
+    -- y advance is scaled and subtracted: -3 at half size is -2
+    ∷ row 8 (255 ∷ 253 ∷ []) 2 500 1000 (pos 0) (pos 0) (pos 0) (pos 2) true
     ∷ []
 
 pub at-ends : map (λ (x : Row). x .done) ends ≡ map (λ (x : Row). x .right) ends
-unfolding natAt clamp32 floorDiv scaled intAt signed setBelow effectOf fieldsWork valued withFields worked
+unfolding natAt clamp32 scaled intAt signed setBelow effectOf fieldsWork valued withFields worked
 at-ends = refl
 
 -- x offset 2147483647 and 1 more, y advance -2147483648 less 1: both stay
 pub saturates : valued 1000 1000 (directionOf 3) (0 ∷ 1 ∷ 0 ∷ 1 ∷ []) 9 (withPlace (pos 0) (minus 2147483648) (pos 2147483647) (pos 0) noSlot)
     ≡ withPlace (pos 0) (minus 2147483648) (pos 2147483647) (pos 0) noSlot
-unfolding natAt clamp32 floorDiv scaled intAt signed setBelow effectOf valued withFields
+unfolding natAt clamp32 scaled intAt signed setBelow effectOf valued withFields
 saturates = refl
