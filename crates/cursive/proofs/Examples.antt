@@ -59,7 +59,7 @@ unfolding joinedAt tied separatedBy reversed reversedIn turned cleared attachedC
 separates = refl
 
 -- right to left, RIGHT_TO_LEFT set among other flags: slot 0, the child, is pulled back by 40 + 10, slot 1's advance is 300 + 7; each of the four numbers is scaled
--- by itself: at half size the exit y 3 is 2 and the entry y -1 is -1, so that the difference is -3; scaled once it were -2
+-- by itself: at half size the exit y 3 is 2 and the entry y -1 is -1, so that the difference is -3; scaled once it would be -2
 pub right-to-left : joinedAt 500 1000 RightToLeft 65535 0 1 (spotAt (pos 80) (pos 3)) (spotAt (pos 600) (minus 1))
     (glyphSlot 5 0 (pos 0) (pos 600) (pos 0) (pos 10) (pos 1) ∷ glyphSlot 6 0 (pos 0) (pos 500) (pos 0) (pos 7) (pos 1) ∷ [])
     ≡ glyphSlot 5 2 (pos 1) (pos 550) (pos 0) (minus 40) (minus 3) ∷ glyphSlot 6 0 (pos 0) (pos 307) (pos 0) (pos 7) (pos 1) ∷ []

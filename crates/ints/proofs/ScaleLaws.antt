@@ -13,7 +13,7 @@ use Rattle.ints.proofs.Ints.{dn, dn-mul, dn-neg, up, up-mul, up-neg}
 use Rattle.ints.proofs.SignedLaws.{signed-neg, signed-pos}
 use Rattle.ints.proofs.SizeLaws.{abs-neg, apart}
 
--- half of an odd m may be cut: n + m / 2 is a multiple of m at a tie alone
+-- dividing by 2 m is halving and then dividing by m, so half of an odd m may be cut
 pub rounded-half : (n m : ℕ) → rounded n m ≡ (n + m / 2) / m
 rounded-half n m =
     let e : (2 * n + m) / 2 ≡ n + m / 2 = omega arith in

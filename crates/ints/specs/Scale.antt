@@ -22,7 +22,6 @@ abbrev pub withSignOf : ℤ → ℕ → ℤ
 withSignOf (pos _) n = pos n
 withSignOf (negsuc _) n = minus n
 
--- v at the scale s / u: its size at that scale, rounded, with its sign. So a tie goes away from zero, and - v becomes
--- the mirror of what v becomes.
+-- v at the scale s / u: its size, rounded, with its sign; so a tie goes away from zero, and - v becomes the mirror
 unfoldable pub scaled : ℤ → ℕ → ℕ → ℤ
 scaled v s u = withSignOf v (rounded (natAbs v * s) u)

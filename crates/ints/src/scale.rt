@@ -26,7 +26,7 @@ pub fn scale(v: Signed, s: u32, u: u32) -> Signed
     with_sign_of(v, round(size_of(v), s, u))
 }
 
-// The size of v.
+// The size of v: bits from those of the lowest number up are a negative number's.
 fn size_of(v: Signed) -> u32
     ensures { λ r. ⌜ r ≡ natAbs (val v) ⌝ }
 {
@@ -36,8 +36,8 @@ fn size_of(v: Signed) -> u32
     (WHOLE32 - v as u64) as u32
 }
 
-// n s / u, rounded. Half of u is cut where u is odd, which makes no tie of what isn't one; so 32 bits are enough, and
-// a division of 64 isn't needed.
+// n s / u, rounded: the definition's quotient with both sides halved, so that 32 bits hold what is divided. Cutting
+// half of an odd u changes no quotient.
 fn round(n: u32, s: u32, u: u32) -> u32
     requires { ⌜ (n ≤ whole16) × InScale s u ⌝ }
     ensures { λ r. ⌜ (r ≡ rounded (n * s) u) × (r ≤ mostScaled) ⌝ }

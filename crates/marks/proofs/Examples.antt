@@ -41,7 +41,7 @@ pub record Worked : Type 0 where
   -- nothing is seen before the mark, and what was found is not covered: concat
   pub none-found : planOf (Search Base) Y (subtable 4) (glyphAt 5 0 0 0 0 (pos 0) (pos 0) ∷ glyphAt 9 0 0 2 0 (pos 0) (pos 0) ∷ []) 1 ≡ stop (unsafeToConcat 0 2 ∷ [])
   pub uncovered : planOf (Search Base) Y (subtable 4) (part 0 0 ∷ part 0 0 ∷ part 0 0 ∷ []) 2 ≡ stop (unsafeToConcat 1 3 ∷ [])
-  -- attached, left to right: the anchors' difference, scaled as one number (185 at half size is 93; 206 and 21 would be 103 and 11), and across the line the
+  -- attached, left to right: the anchors' difference, scaled as one number (185 at half size is 93; 206 less 21 would be 103 less 11), and across the line the
   -- base's walk
   pub across-y : slot (planned 500 1000 LeftToRight 2 (hang 0 (point (pos 100) (pos 206)) (point (pos 10) (pos 21)) (pos 30)) plain) 2
       ≡ record { glyph = 9; ligatureId = 0; component = 0; flags = 2; attachType = 1; chain = negsuc 1; xAdvance = pos 600; yAdvance = pos 0; xOffset = pos 45; yOffset = pos 123; cluster = 0 }

@@ -152,7 +152,7 @@ finish z limit ss = result (finishCall 0 limit true) z (bytes z ss)
 -- ---- the table, for slots of z bytes
 abbrev pub table : ℕ → List Row
 table z =
-    -- P1: at s 500 and u 1000 the values 3 and -3 are 2 and -1
+    -- P1: at s 500 and u 1000 the values 3 and -3 are 2 and -2
     row (single z 500 1000 5 (values (pos 3 ∷ minus 3 ∷ [])) 0)
     (becomes 500 1000 (pos 3) (pos 2) ∷ becomes 500 1000 (minus 3) (minus 2) ∷ xOffset 0 (pos 2) ∷ xAdvance 0 (minus 2) ∷ [])
     -- P2: the record FF F6 00 14 of format 5: in direction 0 -10 for the x offset, 20 for the x advance; in direction 2 only the first; it has worked in both
