@@ -42,7 +42,8 @@ pub struct Scale {
 impl Scale {
     #[inline(always)]
     fn of(self, v: i64) -> i32 {
-        i32::try_from((2 * v * self.s + v.signum() * self.u) / (2 * self.u)).unwrap()
+        let half = if v < 0 { -self.u } else { self.u };
+        i32::try_from((2 * v * self.s + half) / (2 * self.u)).unwrap()
     }
     #[inline(always)]
     pub fn scale_x(self, v: i32) -> i32 {

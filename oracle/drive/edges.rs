@@ -68,7 +68,7 @@ fn at_the_count() -> Vec<Call> {
     [7, 8, 9].map(|glyph| single(of_glyph(glyph), subtable.clone())).into()
 }
 
-/// s, u and a value that lies half way between two whole numbers; at the last, whose u is odd, none does, and the value is nearest to that.
+/// s, u and a value that lies half way between two whole numbers; at the last, whose u is odd, none does, and the value is beside where one would.
 const TIES: [(u32, u32, i16); 6] = [(500, 1000, 3), (1, 16, 24), (3, 16, 8), (1, 16384, 8192), (32767, 16384, 8192), (1, 17, 8)];
 
 /// Ties, the values beside them, and all of these negated.
