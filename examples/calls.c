@@ -1,6 +1,7 @@
 /* Every call with good input, then where it declines, then where it is refused, by each number from
    1 to 7: on slots of 24 bytes and on slots of 28. Then good input on slots of 26 bytes, which no
-   call takes; then the moves. gpos_start, gpos_finish and the moves never decline. */
+   call takes; then the moves. gpos_start, gpos_finish and the moves never decline. Last, kerns that
+   are scaled. */
 #include "words.h"
 
 enum { LETTER = 1, MARK = 2, ZWNJ = 3, SLOTS = 3 };
@@ -12,14 +13,15 @@ static const uint8_t wider[] = {
     /* 8 */ COVERAGE(LETTER),
 };
 
-/* PairPos format 1: x advance -50 for the letter before another. */
-static const uint8_t kern[] = {
-    /*  0 */ U16(1), U16(12), /* format, coverage at 12 */
-    /*  4 */ U16(4), U16(0),  /* value formats: an x advance for the first, none for the second */
-    /*  8 */ U16(1), U16(18), /* one pair set, at 18 */
-    /* 12 */ COVERAGE(LETTER),
-    /* 18 */ U16(1), U16(LETTER), U16(-50), /* one pair: second glyph, value */
-};
+/* PairPos format 1: an x advance for the letter before another. */
+#define KERN(value)                                                                                \
+    /*  0 */ U16(1), U16(12), /* format, coverage at 12 */                                         \
+    /*  4 */ U16(4), U16(0),  /* value formats: an x advance for the first, none for the second */ \
+    /*  8 */ U16(1), U16(18), /* one pair set, at 18 */                                            \
+    /* 12 */ COVERAGE(LETTER),                                                                     \
+    /* 18 */ U16(1), U16(LETTER), U16(value) /* one pair: second glyph, value */
+
+static const uint8_t kern[] = {KERN(-50)};
 
 /* CursivePos format 1: the letter's entry is (30, 5) and its exit (500, 20). */
 static const uint8_t joins[] = {
@@ -190,6 +192,17 @@ static void moves(void) {
     say_done("gpos_from_clusters, a ligature id of 8", gpos_from_clusters(BACK(0, 0)));
 }
 
+/* At half size 3 and -3 lie half way between two whole numbers. Each goes to the one further from
+   zero, so that a kern and its opposite move equally far. */
+static void kerned(int value) {
+    uint8_t by[] = {KERN(value)};
+    fill();
+    say("gpos_pair at half size",
+        gpos_pair(LINE, by, sizeof by, GPOS_DIRECTION_LEFT_TO_RIGHT, 500, 1000, 0,
+                  GPOS_NEIGHBOUR_NAMED, 1));
+    printf("    a kern of %d moves by %d\n", value, (int)gpos_get_slot(slot(0)).x_advance - 600);
+}
+
 static void calls_with(size_t bytes) {
     size = bytes;
     printf("slots of %zu bytes\n", size);
@@ -209,5 +222,9 @@ int main(void) {
     applied();
     puts("\nmoves");
     moves();
+    puts("\nkerns");
+    size = GPOS_PLAIN_SIZE;
+    kerned(3);
+    kerned(-3);
     return 0;
 }

@@ -85,10 +85,11 @@ enum { LOOKUPS = sizeof lookups / sizeof *lookups };
 
 /* ---- Filling the slots */
 
-/* To the nearest whole number, a tie away from zero, as the library rounds; C divides toward zero. */
+/* To the nearest whole number, a tie away from zero, as the library rounds. C divides toward zero,
+   so half a unit is added with the sign of v. */
 static int32_t scaled(int64_t v) {
-    int64_t half = v < 0 ? -UNITS_PER_EM : UNITS_PER_EM;
-    return (int32_t)((2 * v * EM_SIZE + half) / (2 * UNITS_PER_EM));
+    int64_t em = UNITS_PER_EM, half = v < 0 ? -em : em;
+    return (int32_t)((2 * v * EM_SIZE + half) / (2 * em));
 }
 
 static void fill(void) {

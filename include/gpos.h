@@ -138,10 +138,11 @@
 extern "C" {
 #endif
 
-/* The version of this file and of the library that was installed with it. */
+/* The version of this file and of the library that was installed with it. Up to 0.3.0 a number at a
+ * tie of the scale (below) went up; from 0.4.0 on it goes away from zero. */
 #define GPOS_VERSION "0.4.0"
 #define GPOS_VERSION_MAJOR 0
-#define GPOS_VERSION_MINOR 3
+#define GPOS_VERSION_MINOR 4
 #define GPOS_VERSION_PATCH 0
 
 /* Bytes of a slot, without a cluster and with one; the most slots in a line; the most bytes of a
@@ -290,8 +291,10 @@ uint32_t gpos_finish(uint8_t *line, size_t line_len, size_t slot_size, uint32_t 
  * off than that counts as cut.
  *
  * The scale: em_size units of the line make one em, and units_per_em of the font (its unitsPerEm).
- * A number v of the font becomes v em_size / units_per_em, rounded to the nearest whole number, a tie
- * away from zero: at half size 3 becomes 2, and -3 becomes -2. */
+ * A number v of the font becomes v em_size / units_per_em, rounded to the nearest whole number, a
+ * tie away from zero: at half size (500 / 1000) 3 becomes 2, and -3 becomes -2, so that -v always
+ * becomes minus what v becomes. Values of records and coordinates of cursive anchors are scaled one
+ * by one; of the anchors of a mark and of what it goes on, the difference is. */
 
 /* Single adjustment (lookup type 1): adds a value record to the glyph. In vertical text a record's
  * y advance, which counts downward, is subtracted. A record that the subtable's end cuts is applied

@@ -121,7 +121,7 @@ fn lookups() -> [Lookup; 2] {
 
 /// To the nearest whole number, a tie away from zero, as the library rounds; Rust divides toward zero.
 fn scaled(v: i32) -> i32 {
-    let [v, em_size, units_per_em] = [v.into(), SCALE.em_size.into(), SCALE.units_per_em.into()];
+    let [v, em_size, units_per_em]: [i64; 3] = [v.into(), SCALE.em_size.into(), SCALE.units_per_em.into()];
     ((2 * v * em_size + v.signum() * units_per_em) / (2 * units_per_em)) as i32
 }
 

@@ -195,8 +195,10 @@ impl Direction {
 
 /// From the font's design units to those of the line, alike for x and y.
 ///
-/// A design value `v` becomes `v * em_size / units_per_em`, rounded to the nearest whole number, a tie away from zero: at
-/// half size 3 becomes 2, and -3 becomes -2.
+/// A design value `v` becomes `v * em_size / units_per_em`, rounded to the nearest whole number, a tie away from zero:
+/// at half size 3 becomes 2, and -3 becomes -2. (Up to version 0.3.0 a tie went up: -3 became -1.) Values of records
+/// and coordinates of cursive anchors are scaled one by one; of the anchors of a mark and of what it goes on, the
+/// difference is.
 #[derive(Clone, Copy, Debug, PartialEq, Eq, Hash)]
 pub struct Scale {
     /// How many units of the line's advances and offsets make one em, 1 to 32,768.

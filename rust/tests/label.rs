@@ -104,7 +104,7 @@ fn the_advance_across_the_line_is_not_applied_and_the_one_downward_is_subtracted
 #[test]
 fn values_are_scaled_to_the_nearest_and_ties_go_away_from_zero() {
     let scale = Scale { em_size: 500, units_per_em: 1000 };
-    for (value, expected) in [(3, 2), (-3, -2), (1, 1), (-1, -1), (2, 1), (-2, -1)] {
+    for (value, expected) in [(3, 2), (-3, -2), (1, 1), (-1, -1), (2, 1), (-2, -1), (0, 0)] {
         let mut line = line_in(Form::Plain, &[glyph(36)]);
         let table = words(&[1, 8, 1, value, 1, 1, 36]);
         assert!(single(&mut line, Form::Plain, &table, At { scale, ..at(0) }).is_ok());
