@@ -4,7 +4,7 @@ use Prim.Native.Nat.{ℕ, zero, suc, _+_, _*_, _-_, _/_, _%_, _<_, _≤_}
 use native.Mathlib.Nat.{div-div-eq-div-mul, div-eq-of-lt, div-lt-iff-lt-mul, div-mul-le-self, div-zero, lt-div-mul-add, mul-le-mul, mul-le-mul-right}
 use native.Mathlib.Decide.{decLt}
 use native.Mathlib.Omega.{arith}
-use lib.IntN.{ℤ, pos, negsuc, negℤ, natAbs, _-ℤ_, _*ℤ_, negℤ-negℤ}
+use lib.IntN.{ℤ, pos, negsuc, negℤ, natAbs, _*ℤ_, negℤ-negℤ}
 use Rattle.ints.specs.Saturating.{minus}
 use Rattle.ints.specs.Scale.{rounded, scaled, withSignOf}
 use Rattle.ints.specs.code.Signed.{val}

@@ -1,5 +1,5 @@
 -- Laws of two's complement, once over the width. Assumes nothing.
-use mathlib.Core.Path.{_≡_, refl, sym, ap, _∙_}
+use mathlib.Core.Path.{_≡_, sym, ap, _∙_}
 use mathlib.Core.List.{List, _++_}
 use Prim.Native.Nat.{ℕ, zero, suc, _+_, _-_, _%_, _^_, _<_, _≤_}
 use native.Mathlib.Nat.{pow-suc}
@@ -11,7 +11,7 @@ use lib.ListN.{length, take, drop}
 use Rattle.ints.specs.BigEndian.{AllBytes, digits, natAt}
 use Rattle.ints.specs.Signed.{half, InBytes, intAt, pattern, signed, withInt}
 use Rattle.ints.specs.code.Signed.{val}
-use Rattle.ints.proofs.Ints.{by-sign, diff, eq-diff, negsuc-diff, pos-diff, sub-pos}
+use Rattle.ints.proofs.Ints.{diff, eq-diff, negsuc-diff, pos-diff, sub-pos}
 use Rattle.ints.proofs.BigEndianLaws.{digits-natAt, natAt-digits, natAt-fits, natAt-withNat, withNat-natAt}
 
 -- the patterns are two halves
@@ -44,7 +44,7 @@ pattern-fits w (negsuc n) h = omega arith
 
 pub signed-pattern : (w : ℕ) (z : ℤ) → 1 ≤ w → InBytes w z → signed w (pattern w z) ≡ z
 unfolding pattern
-signed-pattern w (pos n) o h = signed-low w n n 0 h (omega arith) ∙ sym (pos-diff n)
+signed-pattern w (pos n) o h = signed-pos w n h
 signed-pattern w (negsuc n) o h =
     let e = halves w o in
     signed-high w (256 ^ w - (n + 1)) 0 (suc n) (omega arith) (omega arith) ∙ sym (negsuc-diff n)
@@ -55,8 +55,8 @@ unfolding pattern
 pattern-signed w n h = go (decLt n (half w))
   where
     go : Dec (n < half w) → pattern w (signed w n) ≡ n
-    go (yes l) = rw (signed-low w n n 0 l (omega arith), ← (pos-diff n))
-    go (no f) = rw (signed-high w n n (256 ^ w) (omega arith) (omega arith)) (by-sign (λ z. pattern w z ≡ n) n (256 ^ w) (λ k. omega arith) (λ k. omega arith))
+    go (yes l) = rw (signed-pos w n l)
+    go (no f) = rw (signed-neg w n (omega arith) h) (omega arith)
 
 -- so two patterns of one integer are the same
 pub signed-same : (w n m : ℕ) → n < 256 ^ w → m < 256 ^ w → signed w n ≡ signed w m → n ≡ m
@@ -67,8 +67,8 @@ pub signed-in : (w n : ℕ) → 1 ≤ w → n < 256 ^ w → InBytes w (signed w 
 signed-in w n o h = go (decLt n (half w))
   where
     go : Dec (n < half w) → InBytes w (signed w n)
-    go (yes l) = rw (signed-low w n n 0 l (omega arith), ← (pos-diff n)) l
-    go (no f) = rw (signed-high w n n (256 ^ w) (omega arith) (omega arith)) (by-sign (λ z. InBytes w z) n (256 ^ w) (λ k. absurd (omega arith)) (λ k. omega (arith, halves w o)))
+    go (yes l) = rw (signed-pos w n l) l
+    go (no f) = rw (signed-neg w n (omega arith) h) (omega (arith, halves w o))
 
 -- a number of 16 bits has the lower half of its 32 bits for a pattern
 pub pattern-16 : (v : ℕ) → v < 4294967296 → InBytes 2 (val v) → pattern 2 (val v) ≡ v % 65536
@@ -76,8 +76,8 @@ unfolding pattern
 pattern-16 v h = go (decLt v (half 4))
   where
     go : Dec (v < half 4) → InBytes 2 (val v) → pattern 2 (val v) ≡ v % 65536
-    go (yes l) = rw (signed-low 4 v v 0 l (omega arith), ← (pos-diff v)) (omega arith)
-    go (no f) = rw (signed-high 4 v v 4294967296 (omega arith) refl) (by-sign (λ z. InBytes 2 z → pattern 2 z ≡ v % 65536) v 4294967296 (λ k. omega arith) (λ k. omega arith))
+    go (yes l) = rw (signed-pos 4 v l) (λ k. omega arith)
+    go (no f) = rw (signed-neg 4 v (omega arith) h) (λ k. omega arith)
 
 -- ---- integers in bytes
 -- what was written is read

@@ -22,6 +22,6 @@ abbrev pub withSignOf : ℤ → ℕ → ℤ
 withSignOf (pos _) n = pos n
 withSignOf (negsuc _) n = minus n
 
--- v at the scale s / u: its size, rounded, with its sign; so a tie goes away from zero, and - v becomes the mirror
+-- v at the scale s / u: its size times s / u, rounded, with its sign; so a tie goes away from zero, and - v mirrors v
 unfoldable pub scaled : ℤ → ℕ → ℕ → ℤ
 scaled v s u = withSignOf v (rounded (natAbs v * s) u)

@@ -1,7 +1,6 @@
 -- The three steps of the definition, and the bound of the size. Assumes nothing.
-use mathlib.Core.Path.{_≡_, ap, _∙_}
+use mathlib.Core.Path.{ap, _∙_}
 use Prim.Native.Nat.{ℕ, _*_}
-use native.Mathlib.Omega.{arith}
 use Rattle.ints.specs.Scale.{rounded, scaled, withSignOf}
 use Rattle.ints.specs.code.Signed.{val}
 use Rattle.ints.proofs.ScaleLaws.{abs-sign}
