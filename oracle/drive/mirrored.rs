@@ -37,7 +37,8 @@ fn change_measures(line: &mut [u8], slot: usize, change: fn(i32) -> i32) {
     }
 }
 
-/// One of two calls that a seed makes. Marks on marks have the subtable of marks on bases, of the same layout: one that is made for them may have anchors among its offsets.
+/// One of two calls that a seed makes. Marks on marks have the subtable of marks on bases, of the same layout: one that is made for them may have anchors among its
+/// offsets.
 fn made(kind: usize, seed: u64, twin: Twin) -> Call {
     let mut r = Rng::new(seed);
     let mut call = arguments(&mut r, kind, NEVER);
