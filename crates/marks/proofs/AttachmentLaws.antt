@@ -1,5 +1,5 @@
 -- Laws of mark attachment: the chain's number, the changes of the mark's slot as one, and what each plan comes to. Assumes nothing.
-use mathlib.Core.Path.{_≡_, refl, sym, ap, _∙_}
+use mathlib.Core.Path.{_≡_, refl, sym, ap, subst, _∙_}
 use mathlib.Core.Bool.{true, false}
 use mathlib.Core.List.{List, [], _∷_}
 use Prim.Native.Nat.{ℕ, _+_, _-_, _≤_, _<_}
@@ -23,10 +23,11 @@ use Rattle.slots.specs.Parent.{cleared}
 use Rattle.slots.proofs.ChainLaws.{back-bits, near-fits}
 use Rattle.slots.proofs.LineLaws.{update-both}
 use Rattle.tables.specs.Anchor.{Point}
-use Rattle.answers.specs.code.Effect.{Effect}
+use Rattle.answers.specs.code.Effect.{Effect, MadeOn}
 use Rattle.answers.specs.Said.{Range, unsafeToBreak, Said, applied, declined, refused}
-use Rattle.marks.specs.Attachment.{anchorDelta, markAttached, planned}
-use Rattle.marks.specs.Plan.{Plan, stop, endless, hang, planSaid}
+use Rattle.targets.specs.declared.place.Way.{Way}
+use Rattle.marks.specs.Attachment.{anchorDelta, markAttached, markAttachment, planned}
+use Rattle.marks.specs.Plan.{Plan, stop, endless, hang, planOf, planSaid}
 
 -- the bits of a chain back to slot b stand for the distance, and it is a number of 16 bits
 module _ (idx b : ℕ) (back : b < idx) (near : idx - b ≤ 32768) where
@@ -71,3 +72,8 @@ module _ (s u : ℕ) (d : Direction) (idx : ℕ) {plan : Plan} {ss : List Slot} 
     pub effect-attached : idx - b ≤ 32768 → r ≡ applied (idx + 1) (unsafeToBreak b (idx + 1) ∷ []) true → ss′ ≡ update idx (markAttached s u d idx b base mark walk) ss
         → Effect ss (planSaid idx plan) (planned s u d idx plan ss) r ss′
     effect-attached h is-r is-ss = rw (← e, le-leb (idx - b) 32768 h) (record { answer = is-r; slots-are = is-ss })
+
+-- a plan that is the mark's, carried out, is the call made
+pub made-so : (way : Way) (s u : ℕ) (d : Direction) (idx : ℕ) (t : List ℕ) (ss : List Slot) {plan : Plan} {r : Said} {ss′ : List Slot}
+    → plan ≡ planOf way (cross d) t ss idx → Effect ss (planSaid idx plan) (planned s u d idx plan ss) r ss′ → MadeOn (markAttachment way t d s u idx) ss r ss′
+made-so way s u d idx t ss {r = r} {ss′ = ss′} e done = subst (λ (p : Plan). Effect ss (planSaid idx p) (planned s u d idx p ss) r ss′) e done

@@ -1,5 +1,6 @@
 // Hanging a mark on a slot (`attach_mark`), and the core.
 use crate::plan::Plan;
+use crate::plan::after_place;
 use crate::plan::plan_of;
 use answers::Answer;
 use answers::Hazards;
@@ -19,7 +20,9 @@ use slots::layout::MARK_TYPE;
 use slots::shape::Shape;
 use tables::anchor::Point;
 use tables::anchor::coordinate_on;
+use targets::mark_pos::Target;
 use targets::place::Way;
+use targets::search::Found;
 ghost use mathlib.Core.Bool.{true};
 ghost use mathlib.Core.List.{[], _∷_};
 ghost use mathlib.Core.Path.{_≡_};
@@ -27,21 +30,24 @@ ghost use Prim.Native.Nat.{_+_, _<_};
 ghost use Rattle.ints.specs.code.Scale.{InScale};
 ghost use Rattle.ints.specs.code.Signed.{val};
 ghost use Rattle.slots.specs.code.Shape.{HasNext, Inside};
-ghost use Rattle.slots.specs.Line.{slots, update};
+ghost use Rattle.slots.specs.Line.{slot, slots, update};
 ghost use Rattle.tables.specs.code.Meant.{Near16, pointOf};
-ghost use Rattle.answers.specs.code.Effect.{MadeOn};
+ghost use Rattle.tables.specs.declared.coverage.Covered.the-variants.{Index};
+ghost use Rattle.answers.specs.code.Effect.{Effect, MadeOn};
 ghost use Rattle.answers.specs.Said.{applied, unsafeToBreak, said};
-ghost use Rattle.targets.specs.MarkPos.{marksGood};
-ghost use Rattle.targets.specs.code.Meant.{WayBefore};
-ghost use Rattle.marks.specs.Attachment.{markAttachment, anchorDelta, markAttached};
-ghost use Rattle.marks.specs.code.Meant.{InReach};
+ghost use Rattle.targets.specs.MarkPos.{markIndex, marksGood};
+ghost use Rattle.targets.specs.Place.{placeFor};
+ghost use Rattle.targets.specs.code.Meant.{Before, foundOf, WayBefore};
+ghost use Rattle.targets.specs.declared.place.Way.the-variants.{Search};
+ghost use Rattle.marks.specs.Attachment.{markAttachment, anchorDelta, markAttached, planned};
+ghost use Rattle.marks.specs.Plan.{planSaid};
+ghost use Rattle.marks.specs.code.Meant.{InReach, meant, Sound};
 
 // 2^32: -n is stored as 2^32 - n.
 const TWO_TO_32: usize = 4294967296;
 
-// The core: makes the plan for the mark in slot idx, and hangs it, or leaves the line as it was. Whatever a
-// public call refuses, but for refusal 7, has been refused before. A mark whose base is too far for a chain loses the
-// chain it had and is passed, as in HarfBuzz; in a line of 1,024 slots none is.
+// The core: makes the plan for the mark in slot idx, and carries it out. Whatever a public call refuses, but for refusal
+// 7, has been refused before.
 pub fn apply(
     line: &mut [u8],
     shape: Shape,
@@ -57,6 +63,49 @@ pub fn apply(
         (slots shape (now (line .entry))) (said r) (slots shape (now (line .exit))) ⌝ }
 {
     let plan = plan_of(line, shape, t, way, slots::axis::cross_axis(d), idx);
+    carry_out(line, shape, d, s, u, idx, plan)
+}
+
+// The same of a mark that is known to be covered, as m, and of which it is known what the search finds.
+pub fn apply_found(
+    line: &mut [u8],
+    shape: Shape,
+    t: &[u8],
+    target: Target,
+    d: Direction,
+    s: u32,
+    u: u32,
+    idx: usize,
+    m: usize,
+    place: Found,
+) -> Answer
+    requires { ⌜ Inside shape (now line) idx × Before idx place × InScale s u × (marksGood (now t) ≡ true)
+        × (markIndex (now t) (slot (slots shape (now line)) idx .glyph) ≡ Index m)
+        × (foundOf place ≡ placeFor (Search target) (now t) (slots shape (now line)) idx) ⌝ }
+    ensures { λ r. ⌜ MadeOn (markAttachment (Search target) (now (t .entry)) d s u idx)
+        (slots shape (now (line .entry))) (said r) (slots shape (now (line .exit))) ⌝ }
+{
+    let across = slots::axis::cross_axis(d);
+    let plan = after_place(line, shape, t, Way::Search(target), across, idx, m, place);
+    carry_out(line, shape, d, s, u, idx, plan)
+}
+
+// The mark in slot idx is hung, or the line left as it was. A mark whose base is too far for a chain loses the chain it
+// had and is passed, as in HarfBuzz; in a line of 1,024 slots none is.
+fn carry_out(
+    line: &mut [u8],
+    shape: Shape,
+    d: Direction,
+    s: u32,
+    u: u32,
+    idx: usize,
+    plan: Plan,
+) -> Answer
+    requires { ⌜ Inside shape (now line) idx × InScale s u × Sound idx plan ⌝ }
+    ensures { λ r. ⌜ Effect (slots shape (now (line .entry))) (planSaid idx (meant idx plan))
+        (planned s u d idx (meant idx plan) (slots shape (now (line .entry)))) (said r)
+        (slots shape (now (line .exit))) ⌝ }
+{
     match plan {
         Plan::Stop => Answer::Declined {
             hazards: Hazards::None,

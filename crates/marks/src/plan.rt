@@ -72,7 +72,7 @@ pub fn plan_of(line: &[u8], shape: Shape, t: &[u8], way: Way, a: Axis, idx: usiz
 }
 
 // The mark is covered: there is a slot that it may go on, or none.
-fn after_place(
+pub fn after_place(
     line: &[u8],
     shape: Shape,
     t: &[u8],

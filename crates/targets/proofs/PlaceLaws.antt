@@ -1,5 +1,5 @@
 -- Laws of the slot that a mark goes on: by what code found, and all that is reported where there is none. Assumes nothing.
-use mathlib.Core.Path.{_≡_, refl}
+use mathlib.Core.Path.{_≡_, refl, _∙_}
 use mathlib.Core.Bool.{Bool, true, false}
 use mathlib.Core.List.{List, [], _∷_}
 use mathlib.Core.Option.{Option, some, none}
@@ -7,6 +7,7 @@ use Prim.Native.Nat.{ℕ, _+_}
 use lib.Dec.{eqb}
 use borrow.Author.Tests.{eq-eqb, ne-eqb}
 use Rattle.ints.specs.Choice.{if_then_else_}
+use Rattle.ints.specs.Tally.{nearest}
 use Rattle.slots.specs.Slot.{Slot}
 use Rattle.slots.specs.Line.{slot}
 use Rattle.answers.specs.Said.{Range, unsafeToConcat}
@@ -28,11 +29,27 @@ module _ (t : List ℕ) {o : ℕ} (read : o ≡ baseCoverageOffset t) (target : 
   pub searched-by : (o ≡ 0 → ⊥) → (ss : List Slot) (idx : ℕ) {p : Option ℕ} → p ≡ foundFor target t ss idx → p ≡ searched target t ss idx
   searched-by h ss idx is = rw (← read, ne-eqb o 0 h) is
 
+  -- the other way round: what the search finds is what is found
+  pub found-by : (o ≡ 0 → ⊥) → (ss : List Slot) (idx : ℕ) {p : Option ℕ} → p ≡ searched target t ss idx → p ≡ foundFor target t ss idx
+  found-by h ss idx is = is ∙ rw (← read, ne-eqb o 0 h)
+
   pub missed-none : o ≡ 0 → (idx : ℕ) → [] ≡ missed (Search target) t idx
   missed-none h idx = rw (← read, eq-eqb o 0 h)
 
   pub missed-search : (o ≡ 0 → ⊥) → (idx : ℕ) → (unsafeToConcat 0 (idx + 1) ∷ []) ≡ missed (Search target) t idx
   missed-search h idx = rw (← read, ne-eqb o 0 h)
+
+-- nothing is found before slot 0
+pub searched-first : (target : Target) (t : List ℕ) (ss : List Slot) → none ≡ searched target t ss 0
+unfolding nearest
+searched-first target t ss = either (eqb (baseCoverageOffset t) 0)
+  where
+    nowhere : Option ℕ
+    nowhere = none
+
+    either : (b : Bool) → none ≡ (if b then nowhere else nowhere)
+    either true = refl
+    either false = refl
 
 -- ---- slot i is named, and code's test says whether the mark may be stacked on it
 module _ (ss : List Slot) (idx i : ℕ) {fits : Bool} (is : fits ≡ stacks (slot ss idx) (slot ss i)) where

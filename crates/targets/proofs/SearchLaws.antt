@@ -1,8 +1,8 @@
 -- Laws of the search: one equation for each way through its tests, by what code read, and one turn. Assumes nothing.
-use mathlib.Core.Path.{_≡_, refl}
+use mathlib.Core.Path.{_≡_, refl, sym}
 use mathlib.Core.Bool.{Bool, true, false, not}
 use mathlib.Core.List.{List}
-use mathlib.Core.Option.{some, none}
+use mathlib.Core.Option.{some, none, Option·none-ne-some, Option·some-injective}
 use Prim.Native.Nat.{ℕ, zero, suc, _+_, _-_, _≤_, _<_}
 use native.Mathlib.Omega.{arith}
 use lib.Dec.{eqb}
@@ -17,6 +17,9 @@ use Rattle.targets.specs.Search.{accepted, goesOn, isCovered, isFirst, s
 use Rattle.ints.specs.Tally.{nearest}
 use Rattle.targets.specs.declared.mark_pos.Target.{Target}
 use Rattle.targets.specs.declared.mark_pos.Target.the-variants.{Base, Ligature}
+use Rattle.targets.specs.declared.search.Found.{Found}
+use Rattle.targets.specs.declared.search.Found.the-variants.{Slot as Slot′, Nowhere}
+use Rattle.targets.specs.code.Meant.{Before, foundOf}
 
 -- ---- is a glyph the first of a multiple substitution?
 module _ (s : Slot) (u : Bool) (is-u : u ≡ flagOf Multiplied s) where
@@ -78,11 +81,6 @@ module _ (target : Target) (t : List ℕ) (ss : List Slot) (i : ℕ) (s : Bool) 
 
 -- ---- the nearest number below j that passes: one turn of a search downward
 module _ (p : ℕ → Bool) where
-  pub nearest-none : (j : ℕ) → j ≤ 0 → nearest p j ≡ none
-  unfolding nearest
-  nearest-none zero h = refl
-  nearest-none (suc n) h = absurd (omega arith)
-
   pub nearest-turn : (j : ℕ) → 0 < j → (t : Bool) → p (j - 1) ≡ t → nearest p j ≡ (if t then some (j - 1) else nearest p (j - 1))
   unfolding nearest
   nearest-turn zero h t e = absurd (omega arith)
@@ -90,3 +88,17 @@ module _ (p : ℕ → Bool) where
       let one : suc n - 1 ≡ n = omega arith in
       let here : p n ≡ t = rw one at e in
       rw (here, one)
+
+  -- what is found is below j
+  nearest-below : (i j : ℕ) → some i ≡ nearest p j → i < j
+  unfolding nearest
+  nearest-below i zero e = absurd (Option·none-ne-some i (sym e))
+  nearest-below i (suc n) e = by-test (p n) e (nearest-below i n)
+    where
+      by-test : (b : Bool) → some i ≡ (if b then some n else nearest p n) → (some i ≡ nearest p n → i < n) → i < suc n
+      by-test true h k = omega (arith, Option·some-injective i n h)
+      by-test false h k = omega (arith, k h)
+
+  pub known-before : (f : Found) (j idx : ℕ) → foundOf f ≡ nearest p j → j ≤ idx → Before idx f
+  known-before Nowhere j idx e h = tt
+  known-before (Slot′ i) j idx e h = omega (arith, nearest-below i j e)

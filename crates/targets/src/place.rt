@@ -9,6 +9,7 @@ use ints::big_endian::read_u16;
 use slots::shape::Shape;
 ghost use mathlib.Core.Bool.{true};
 ghost use mathlib.Core.Path.{_≡_};
+ghost use Prim.Native.Nat.{_≤_};
 ghost use Rattle.slots.specs.code.Shape.{Inside};
 ghost use Rattle.slots.specs.Line.{slots};
 ghost use Rattle.answers.specs.code.Neighbours.{Before as NeighbourBefore};
@@ -31,21 +32,30 @@ pub fn place_for(line: &[u8], shape: Shape, t: &[u8], way: Way, idx: usize) -> F
         × Before idx r ⌝ }
 {
     match way {
-        Way::Search(target) => searched(line, shape, t, target, idx),
+        Way::Search(target) => searched(line, shape, t, target, idx, 0, Found::Nowhere),
         Way::Earlier(earlier) => named(line, shape, idx, earlier),
     }
 }
 
-// What the search finds: without a base coverage nothing is searched.
-fn searched(line: &[u8], shape: Shape, t: &[u8], target: Target, idx: usize) -> Found
-    requires { ⌜ Inside shape (now line) idx × (marksGood (now t) ≡ true) ⌝ }
+// What the search finds: without a base coverage nothing is searched. What it finds before `until` is known: `found`.
+pub fn searched(
+    line: &[u8],
+    shape: Shape,
+    t: &[u8],
+    target: Target,
+    idx: usize,
+    until: usize,
+    found: Found,
+) -> Found
+    requires { ⌜ Inside shape (now line) idx × (marksGood (now t) ≡ true) × (until ≤ idx)
+        × (foundOf found ≡ Place·searched target (now t) (slots shape (now line)) until) ⌝ }
     ensures { λ r. ⌜ (foundOf r ≡ Place·searched target (now (t .entry)) (slots shape (now (line .entry))) idx)
         × Before idx r ⌝ }
 {
     if read_u16(t, BASE_COVERAGE_OFFSET) == 0 {
         return Found::Nowhere;
     }
-    find(line, shape, t, target, idx)
+    find(line, shape, t, target, idx, until, found)
 }
 
 // The slot that the caller names, if the mark may be stacked on it.

@@ -22,19 +22,29 @@ pub enum Found {
 }
 
 // The nearest slot before idx at which the search stops. It need not be covered: then nothing farther is looked for.
-pub fn find(line: &[u8], shape: Shape, t: &[u8], target: Target, idx: usize) -> Found
-    requires { ⌜ Fits shape (now line) × (idx ≤ shape .count) × (marksGood (now t) ≡ true) ⌝ }
+// The slots before `until` were searched before, and `found` was found among them.
+pub fn find(
+    line: &[u8],
+    shape: Shape,
+    t: &[u8],
+    target: Target,
+    idx: usize,
+    until: usize,
+    found: Found,
+) -> Found
+    requires { ⌜ Fits shape (now line) × (idx ≤ shape .count) × (marksGood (now t) ≡ true) × (until ≤ idx)
+        × (foundOf found ≡ foundFor target (now t) (slots shape (now line)) until) ⌝ }
     ensures { λ r. ⌜ (foundOf r ≡ foundFor target (now (t .entry)) (slots shape (now (line .entry))) idx)
         × Before idx r ⌝ }
 {
     let mut j = idx;
-    while 0 < j {
+    while until < j {
         j -= 1;
         if stops_at(line, shape, t, target, j) {
             return Found::Slot(j);
         }
     }
-    Found::Nowhere
+    found
 }
 
 // Does the search stop at slot i? A seen slot that is not accepted is passed, unless the subtable covers it: a font

@@ -1,11 +1,12 @@
 -- `targets::place::place_for` meets its contract: by its case of the way. Assumes nothing.
 use mathlib.Core.Path.{sym, ap, subst, _∙_}
+use native.Mathlib.Omega.{arith}
 use denote.Ref.{now}
 use Rattle.slots.specs.Line.{slots}
 use Rattle.targets.specs.Place.{placeFor}
 use Rattle.targets.specs.code.Meant.{WayBefore}
 use Rattle.targets.specs.declared.place.Way.{Way}
-use Rattle.targets.proofs.PlaceLaws.{by-name, by-search}
+use Rattle.targets.proofs.PlaceLaws.{by-name, by-search, searched-first}
 use borrow.Author.Needs.{needs}
 use Rattle.targets.proofs.place.place_for.Statement.{statement}
 use Rattle.targets.proofs.place.place_for.Tie as tie
@@ -14,7 +15,11 @@ enum-known-way : tie.Need-enum-known-way
 enum-known-way c = search needs
 
 searched-requires : tie.Need-searched-requires
-searched-requires c κs = search needs
+searched-requires c κs =
+    let k = c .before in
+    let s = k .before .before .before .before in
+    let a = s .args in
+    (s .pre .0, s .pre .2, omega arith, searched-first (k .way .given .0 .0) (now (a .t)) (slots (a .shape) (now (a .line))))
 
 enum-known-way-2 : tie.Need-enum-known-way-2
 enum-known-way-2 c = search needs

@@ -3,7 +3,7 @@ use native.Mathlib.Omega.{arith}
 use denote.Ref.{now}
 use Rattle.slots.specs.Line.{slots}
 use Rattle.targets.proofs.MarkPosLaws.{good}
-use Rattle.targets.proofs.PlaceLaws.{searched-by, searched-none}
+use Rattle.targets.proofs.PlaceLaws.{found-by, searched-by, searched-none}
 use borrow.Author.Needs.{needs}
 use Rattle.targets.proofs.place.searched.Statement.{statement}
 use Rattle.targets.proofs.place.searched.Tie as tie
@@ -20,7 +20,11 @@ returns c =
     (searched-none (now (a .t)) (r .read-u16 .ensures .0) (a .target) (c .if1 .taken) (slots (a .shape) (now (a .line))) (a .idx), tt)
 
 find-requires : tie.Need-find-requires
-find-requires c κs = search needs
+find-requires c κs =
+    let r = c .before in
+    let e = r .before .before .before in
+    let a = e .args in
+    (search needs, omega arith, e .pre .1, e .pre .2, found-by (now (a .t)) (r .read-u16 .ensures .0) (a .target) (c .if1 .left) (slots (a .shape) (now (a .line))) (a .until) (e .pre .3))
 
 returns-2 : tie.Need-returns-2
 returns-2 c =
