@@ -4,7 +4,7 @@ use mathlib.Core.List.{List, [], _∷_}
 use Prim.Native.Nat.{ℕ}
 use lib.Dec.{eqb}
 use Rattle.ints.specs.Choice.{if_then_else_}
-use Rattle.answers.specs.Said.{Range, unsafeToBreak, unsafeToConcat, Said, applied, declined, refused, done, range, ranges, refusalNumber, said, saidDone, saidMoved}
+use Rattle.answers.specs.Said.{Range, unsafeToBreak, unsafeToConcat, Said, applied, declined, refused, done, range, ranges, refusalNumber, said, saidDone, saidMoved, saidRun, SaidRun, ran, stopped, notRun}
 use Rattle.answers.specs.declared.HazardKind.{HazardKind}
 use Rattle.answers.specs.declared.HazardKind.the-variants.{UnsafeToBreak, UnsafeToConcat}
 use Rattle.answers.specs.declared.Hazard.{Hazard}
@@ -18,6 +18,8 @@ use Rattle.answers.specs.declared.Moved.{Moved}
 use Rattle.answers.specs.declared.Moved.the-variants.{Done as MovedNow, Refused as NotMoved, Unfit}
 use Rattle.answers.specs.declared.Done.{Done}
 use Rattle.answers.specs.declared.Done.the-variants.{Done as DoneNow, Refused as NotDone}
+use Rattle.answers.specs.declared.Ran.{Ran}
+use Rattle.answers.specs.declared.Ran.the-variants.{Done as RanToEnd, Endless as RanInto7, Refused as NotRun, Unfit as UnfitRun}
 
 -- back from what was said to the answer
 abbrev refusalOf : ℕ → Refusal
@@ -56,6 +58,11 @@ unsaidMoved (refused n) = if eqb n 10 then Unfit else NotMoved (refusalOf n)
 unsaidMoved (applied n rs a) = MovedNow
 unsaidMoved (declined rs) = MovedNow
 unsaidMoved done = MovedNow
+
+abbrev unsaidRun : SaidRun → Ran
+unsaidRun (ran n a) = RanToEnd n a
+unsaidRun (stopped i n) = RanInto7 i n
+unsaidRun (notRun n) = if eqb n 8 then UnfitRun else NotRun (refusalOf n)
 
 refusal-back : (r : Refusal) → refusalOf (refusalNumber r) ≡ r
 refusal-back Line = refl
@@ -98,6 +105,18 @@ saidMoved-back (NotMoved Subtable) = refl
 saidMoved-back (NotMoved Endless) = refl
 saidMoved-back Unfit = refl
 
+saidRun-back : (r : Ran) → unsaidRun (saidRun r) ≡ r
+saidRun-back (RanToEnd n a) = refl
+saidRun-back (RanInto7 i n) = refl
+saidRun-back (NotRun Line) = refl
+saidRun-back (NotRun Direction) = refl
+saidRun-back (NotRun Number) = refl
+saidRun-back (NotRun Slot) = refl
+saidRun-back (NotRun Index) = refl
+saidRun-back (NotRun Subtable) = refl
+saidRun-back (NotRun Endless) = refl
+saidRun-back UnfitRun = refl
+
 -- what can be told from its image is the same where its image is
 from-back : {A B : Type 0} (f : A → B) (g : B → A) → ((x : A) → g (f x) ≡ x) → (x y : A) → f x ≡ f y → x ≡ y
 from-back f g back x y e = sym (back x) ∙ ap g e ∙ back y
@@ -111,3 +130,6 @@ saidDone-same = from-back saidDone unsaidDone saidDone-back
 
 pub saidMoved-same : (r q : Moved) → saidMoved r ≡ saidMoved q → r ≡ q
 saidMoved-same = from-back saidMoved unsaidMoved saidMoved-back
+
+pub saidRun-same : (r q : Ran) → saidRun r ≡ saidRun q → r ≡ q
+saidRun-same = from-back saidRun unsaidRun saidRun-back

@@ -16,6 +16,8 @@ use Rattle.answers.specs.declared.Moved.{Moved}
 use Rattle.answers.specs.declared.Moved.the-variants.{Done as MovedNow, Refused as NotMoved, Unfit}
 use Rattle.answers.specs.declared.Done.{Done}
 use Rattle.answers.specs.declared.Done.the-variants.{Done as DoneNow, Refused as NotDone}
+use Rattle.answers.specs.declared.Ran.{Ran}
+use Rattle.answers.specs.declared.Ran.the-variants.{Done as RanToEnd, Endless as RanInto7, Refused as NotRun, Unfit as UnfitRun}
 
 -- a hazard: unsafe to break, or unsafe to concatenate, from a start up to an end, which is not included
 pub data Range : Type 0 where
@@ -29,6 +31,13 @@ pub data Said : Type 0 where
   declined : (hazards : List Range) → Said
   refused : (number : ℕ) → Said
   done : Said
+
+-- the hazards that a call says, in order
+abbrev pub hazardsOf : Said → List Range
+hazardsOf (applied n hs a) = hs
+hazardsOf (declined hs) = hs
+hazardsOf (refused n) = []
+hazardsOf done = []
 
 -- the numbers of the refusals
 abbrev pub refusalNumber : Refusal → ℕ
@@ -71,6 +80,20 @@ saidMoved Unfit = refused 10
 abbrev pub saidDone : Done → Said
 saidDone DoneNow = done
 saidDone (NotDone r) = refused (refusalNumber r)
+
+-- What the run of a lookup says. Ran: how many records there are, and whether any call attached. Stopped, with 7: at
+-- which slot, and how many records there are. Else the number of the refusal.
+pub data SaidRun : Type 0 where
+  ran : (records : ℕ) (attached : Bool) → SaidRun
+  stopped : (index records : ℕ) → SaidRun
+  notRun : (number : ℕ) → SaidRun
+
+-- what a run's answer says; refusal 8 is its own
+abbrev pub saidRun : Ran → SaidRun
+saidRun (RanToEnd n a) = ran n a
+saidRun (RanInto7 i n) = stopped i n
+saidRun (NotRun r) = notRun (refusalNumber r)
+saidRun UnfitRun = notRun 8
 
 -- refused with the number of the first test of a table that holds; where none holds, what follows
 abbrev pub unless : List (Bool × ℕ) → Said → Said

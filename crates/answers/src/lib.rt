@@ -119,3 +119,14 @@ pub enum Done {
     Done,
     Refused(Refusal),
 }
+
+// What the run of a lookup answers.
+pub enum Ran {
+    // To the line's end: how many records it put into the list, and whether any call attached.
+    Done { records: usize, attached: bool },
+    // Up to the single call, for this slot, that was refused with 7; so many records were put before it.
+    Endless { index: usize, records: usize },
+    Refused(Refusal),
+    // Refusal 8, which is its own: not one to eight subtables, lengths that don't add up, or too short a list.
+    Unfit,
+}

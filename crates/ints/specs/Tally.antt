@@ -1,4 +1,4 @@
--- The numbers below n that pass a test: how many, and the nearest. Assumes nothing.
+-- The numbers that pass a test: how many below n, the nearest below n, the lowest from i up. Assumes nothing.
 use mathlib.Core.Bool.{Bool, true, false}
 use mathlib.Core.Option.{Option, some, none}
 use Prim.Native.Nat.{ℕ, zero, suc, _+_}
@@ -18,3 +18,8 @@ tally p (suc n) = tally p n + bit (p n)
 unfoldable pub nearest : (ℕ → Bool) → ℕ → Option ℕ
 nearest p zero = none
 nearest p (suc n) = if p n then some n else nearest p n
+
+-- the lowest of the n numbers from i up that passes the test
+unfoldable pub lowest : (ℕ → Bool) → ℕ → ℕ → Option ℕ
+lowest p i zero = none
+lowest p i (suc n) = if p i then some i else lowest p (suc i) n

@@ -1,15 +1,7 @@
 -- How many hazards a call may report. Assumes nothing.
-use mathlib.Core.List.{List, []}
 use Prim.Native.Nat.{ℕ, _≤_}
 use lib.ListN.{length}
-use Rattle.answers.specs.Said.{Range, Said, applied, declined, refused, done}
-
--- the hazards that a call says
-abbrev pub hazardsOf : Said → List Range
-hazardsOf (applied n hs a) = hs
-hazardsOf (declined hs) = hs
-hazardsOf (refused n) = []
-hazardsOf done = []
+use Rattle.answers.specs.Said.{Said, applied, declined, refused, done, hazardsOf}
 
 -- applied: up to two; declined: one or none; refused or done: none
 abbrev pub mostHazards : Said → ℕ
