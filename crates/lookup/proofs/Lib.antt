@@ -1,0 +1,11 @@
+pub mod Kept
+pub mod KeptValues
+pub mod KeptCursive
+pub mod KeptMarks
+pub mod IdentityLaws
+pub mod NeighbourLaws
+pub mod SubtableLaws
+pub mod CallLaws
+pub mod FairLaws
+pub mod TurnLaws
+pub mod BeginningLaws

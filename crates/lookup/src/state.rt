@@ -1,0 +1,62 @@
+// Where a run stands.
+use crate::kinds::Kind;
+use answers::Neighbour;
+use answers::Refusal;
+use slots::axis::Direction;
+use slots::shape::Shape;
+
+// The most subtables that a lookup may have.
+pub const MOST_SUBTABLES: usize = 8;
+
+// What a run is told: the size of a slot, OpenType's lookup type and lookup flag, the direction, and the scale, s / u.
+pub struct Settings {
+    pub size: usize,
+    pub kind: u32,
+    pub flag: u32,
+    pub direction: u32,
+    pub s: u32,
+    pub u: u32,
+}
+
+// The same, checked.
+pub struct Lookup {
+    pub shape: Shape,
+    pub kind: Kind,
+    pub direction: Direction,
+    pub flag: u32,
+    pub s: u32,
+    pub u: u32,
+}
+
+// How far the search for what a mark goes on has come with each subtable: up to slot `until`. `found` is the number of the
+// slot that it finds before that, and one; or 0, if it finds none.
+pub struct Memory {
+    pub until: [usize; 8],
+    pub found: [usize; 8],
+}
+
+// How a run ended.
+pub enum End {
+    // At the line's end.
+    Done,
+    // At a single call that was refused with 7.
+    Endless,
+    // Before it began.
+    Refused(Refusal),
+    // Before it began, with refusal 8, which is its own.
+    Unfit,
+}
+
+// Where a run stands: the next single call is that of slot `index` with subtable `subtable`, which starts at byte
+// `start`. `near` is the slot's neighbour. Once `code` is not 0 the run has ended.
+pub struct State {
+    pub code: u32,
+    pub end: End,
+    pub index: usize,
+    pub subtable: usize,
+    pub start: usize,
+    pub attached: bool,
+    pub near: Neighbour,
+    pub memory: Memory,
+    pub lookup: Lookup,
+}
