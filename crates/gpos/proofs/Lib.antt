@@ -4,3 +4,5 @@ pub mod ApplyingLaws
 pub mod MovingLaws
 pub mod Unique
 pub mod Examples
+pub mod RunCallLaws
+pub mod RunLaws

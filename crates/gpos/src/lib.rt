@@ -6,6 +6,7 @@ mod finishing;
 mod mark_pos;
 mod moving;
 mod pair_pos;
+mod running;
 mod single_pos;
 mod starting;
 
@@ -17,5 +18,6 @@ pub use mark_pos::mark_mark;
 pub use moving::from_clusters;
 pub use moving::to_clusters;
 pub use pair_pos::pair;
+pub use running::lookup;
 pub use single_pos::single;
 pub use starting::start;

@@ -1,0 +1,1 @@
+pub mod Ending  -- what a run answers at its end
