@@ -221,6 +221,7 @@ typedef enum {
     GPOS_REFUSED_INDEX = 5,
     GPOS_REFUSED_SUBTABLE = 6,
     GPOS_REFUSED_ENDLESS = 7,
+    GPOS_REFUSED_LIST = 8,
     GPOS_REFUSED_MOVE = 10
 } gpos_refusal;
 
@@ -247,6 +248,14 @@ typedef struct {
     gpos_hazard hazard[2]; /* in the order in which they arise */
 } gpos_answer;
 
+/* What gpos_lookup answers. What a case doesn't have is 0. */
+typedef struct {
+    uint32_t refusal;  /* GPOS_DONE, or 1, 2, 3, 4, 8, 6; or 7: stopped at index */
+    uint32_t attached; /* done: 1 if some call attached, so that gpos_finish is needed */
+    size_t index;      /* stopped: the slot whose call was refused with 7 */
+    size_t count;      /* done or stopped: how many hazards were put into the list */
+} gpos_run;
+
 #if defined(__cplusplus)
 #define GPOS_LAYOUT(holds) static_assert(holds, "the layout that the library has")
 #elif defined(__STDC_VERSION__) && __STDC_VERSION__ >= 201112L
@@ -260,6 +269,9 @@ GPOS_LAYOUT(sizeof(gpos_answer) == 72 && offsetof(gpos_answer, status) == 0);
 GPOS_LAYOUT(offsetof(gpos_answer, refusal) == 4 && offsetof(gpos_answer, attached) == 8);
 GPOS_LAYOUT(offsetof(gpos_answer, hazard_count) == 12 && offsetof(gpos_answer, next) == 16);
 GPOS_LAYOUT(offsetof(gpos_answer, hazard) == 24);
+GPOS_LAYOUT(sizeof(gpos_run) == 24 && offsetof(gpos_run, refusal) == 0);
+GPOS_LAYOUT(offsetof(gpos_run, attached) == 4 && offsetof(gpos_run, index) == 8);
+GPOS_LAYOUT(offsetof(gpos_run, count) == 16);
 #undef GPOS_LAYOUT
 #endif
 
@@ -280,6 +292,34 @@ uint32_t gpos_start(uint8_t *line, size_t line_len, size_t slot_size);
  * Returns GPOS_DONE, or refusal 1, 2, 3 or 4. */
 uint32_t gpos_finish(uint8_t *line, size_t line_len, size_t slot_size, uint32_t direction,
                      uint32_t nesting_limit, uint32_t attachments);
+
+/* ---- Running a lookup over a line */
+
+/* What a lookup may have, and how many places its list of hazards must have. */
+#define GPOS_MOST_SUBTABLES 8
+#define GPOS_PLACES(slot_count, subtable_count) (2 * (slot_count) * (subtable_count))
+
+/* Runs a lookup over the line: at each slot, from slot 0 up, its subtables are tried in their
+ * order, and the first that applies wins and says at which slot to go on; where all decline, that
+ * is the next one. The result is that of the calls below, made one after another; but line and
+ * subtables are checked once.
+ * lookup_type is OpenType's, 1 to 6 (type 9 you unwrap). The 1 to 8 subtables lie end to end in one
+ * buffer, and subtable_lens has their lengths, which must add up to it; each sees its own bytes
+ * only. (How long a subtable is: see below.)
+ * Neighbours go by GPOS_SLOT_SEEN, which you set for each lookup before it runs: the second glyph
+ * of a pair is the next seen slot; what a cursive glyph joins, or an earlier mark, the last seen
+ * slot before. The slot at hand is tried whether it is seen or not.
+ * The hazards of every call made, also of those that declined, go into `list` in the order in which
+ * they arise; its places behind these keep what they held, and of a record that is written bytes 4
+ * to 7, which are padding, may hold anything. It must have twice as many places as slots times
+ * subtables (GPOS_PLACES). An empty line has none, but its subtables are checked all the same.
+ * Returns GPOS_DONE; or refusal 1, 2, 3, 4, 8 or 6, the first of these in this order, and line and
+ * list are untouched. Where a single call would be refused with 7, the run stops: refusal is 7, and
+ * line and list are as the calls before left them. */
+gpos_run gpos_lookup(uint8_t *line, size_t line_len, size_t slot_size, uint32_t lookup_type,
+                     uint32_t lookup_flag, const uint8_t *subtables, size_t subtables_len,
+                     const size_t *subtable_lens, size_t subtable_count, uint32_t direction,
+                     uint32_t em_size, uint32_t units_per_em, gpos_hazard *list, size_t places);
 
 /* ---- Applying a subtable at a glyph
  *
@@ -397,6 +437,7 @@ static inline const char *gpos_refusal_text(uint32_t refusal) {
     case GPOS_REFUSED_DIRECTION: return "the direction is unknown";
     case GPOS_REFUSED_RANGE: return "em size, units per em or nesting limit is out of range";
     case GPOS_REFUSED_SLOT: return "a slot's numbers are out of range, or the slot size is wrong";
+    case GPOS_REFUSED_LIST: return "not 1 to 8 subtables, wrong lengths, or too short a list";
     case GPOS_REFUSED_INDEX: return "the index or the neighbour is out of place";
     case GPOS_REFUSED_SUBTABLE: return "the subtable is too long, cut, unknown or out of order";
     case GPOS_REFUSED_ENDLESS: return "what the mark goes on hangs on a ring of attachments";

@@ -7,10 +7,7 @@ use lib.Dec.{eqb}
 use Rattle.ints.specs.Choice.{if_then_else_}
 use Rattle.answers.specs.declared.Neighbour.{Neighbour}
 use Rattle.answers.specs.declared.Neighbour.the-variants.{Named, Missing}
-use Rattle.answers.specs.Said.{refusalNumber}
-use Rattle.answers.specs.declared.HazardKind.{HazardKind}
-use Rattle.answers.specs.declared.HazardKind.the-variants.{UnsafeToBreak, UnsafeToConcat}
-use Rattle.answers.specs.declared.Hazard.{Hazard}
+use Rattle.answers.specs.Said.{range, refusalNumber}
 use Rattle.answers.specs.declared.Hazards.{Hazards}
 use Rattle.answers.specs.declared.Hazards.the-variants.{None, One, Two}
 use Rattle.answers.specs.declared.Answer.{Answer}
@@ -19,7 +16,12 @@ use Rattle.answers.specs.declared.Moved.{Moved}
 use Rattle.answers.specs.declared.Moved.the-variants.{Done as MovedNow, Refused as NotMoved, Unfit}
 use Rattle.answers.specs.declared.Done.{Done}
 use Rattle.answers.specs.declared.Done.the-variants.{Done as DoneNow, Refused as NotDone}
-use Rattle.gpos_c.specs.declared.layout.CHazard.{CHazard}
+use Rattle.answers.specs.declared.Ran.{Ran}
+use Rattle.answers.specs.declared.Ran.the-variants.{Done as RanToEnd, Endless as RanInto7, Refused as NotRun, Unfit as UnfitRun}
+use Rattle.records.specs.Records.{recordOf}
+use Rattle.records.specs.declared.HazardRecord.{HazardRecord}
+use Rattle.lookup.specs.declared.state.Settings.{Settings}
+use Rattle.gpos_c.specs.declared.layout.CRan.{CRan}
 use Rattle.gpos_c.specs.declared.layout.CAnswer.{CAnswer}
 use Rattle.gpos_c.specs.declared.layout.List.{List}
 
@@ -38,24 +40,15 @@ movedNumber MovedNow = 0
 movedNumber (NotMoved r) = refusalNumber r
 movedNumber Unfit = 10
 
--- unsafe to break, unsafe to concatenate
-abbrev pub hazardKindNumber : HazardKind → ℕ
-hazardKindNumber UnsafeToBreak = 1
-hazardKindNumber UnsafeToConcat = 2
-
--- a hazard for C
-abbrev pub hazardOf : Hazard → CHazard
-hazardOf h = record { kind = hazardKindNumber (h .kind); start = h .start; end = h .end }
-
 -- zeros where there is no hazard
-abbrev pub noHazard : CHazard
+abbrev pub noHazard : HazardRecord
 noHazard = record { kind = 0; start = 0; end = 0 }
 
 -- hazards keep their order
 abbrev pub listOf : Hazards → List
 listOf None = record { count = 0; hazard = noHazard ∷ noHazard ∷ [] }
-listOf (One h) = record { count = 1; hazard = hazardOf h ∷ noHazard ∷ [] }
-listOf (Two h g) = record { count = 2; hazard = hazardOf h ∷ hazardOf g ∷ [] }
+listOf (One h) = record { count = 1; hazard = recordOf (range h) ∷ noHazard ∷ [] }
+listOf (Two h g) = record { count = 2; hazard = recordOf (range h) ∷ recordOf (range g) ∷ [] }
 
 -- a flag for C
 abbrev pub flag : Bool → ℕ
@@ -72,6 +65,23 @@ abbrev pub toC : Answer → CAnswer
 toC (Applied n hs a) = laid 1 0 (flag a) n hs
 toC (Declined hs) = laid 2 0 0 0 hs
 toC (Refused r) = laid 3 (refusalNumber r) 0 0 None
+
+-- a run that is refused: the number of the refusal
+abbrev pub notRun : ℕ → CRan
+notRun n = record { refusal = n; attached = 0; index = 0; count = 0 }
+
+-- the run of a lookup: refusal 0 where it came to the line's end; 7 where it stopped, with the index; what a case doesn't
+-- have is 0
+abbrev pub ranToC : Ran → CRan
+ranToC (RanToEnd n a) = record { refusal = 0; attached = flag a; index = 0; count = n }
+ranToC (RanInto7 i n) = record { refusal = 7; attached = 0; index = i; count = n }
+ranToC (NotRun r) = notRun (refusalNumber r)
+ranToC UnfitRun = notRun 8
+
+-- what a run is told, from C
+abbrev pub settings : (size kind flag direction s u : ℕ) → Settings
+settings size kind flag direction s u =
+    record { size = size; kind = kind; flag = flag; direction = direction; s = s; u = u }
 
 -- a neighbour from C: where `missing` is 0 the slot n, else none, with the bound n
 abbrev pub neighbour : ℕ → ℕ → Neighbour

@@ -1,22 +1,17 @@
 // Answers as numbers: what each case of an answer is for C. specs/Layout.antt gives the numbers.
 use answers::Answer;
 use answers::Done;
-use answers::Hazard;
-use answers::HazardKind;
 use answers::Hazards;
 use answers::Moved;
 use answers::Neighbour;
+use answers::Ran;
 use answers::refusal_number;
+use lookup::state::Settings;
+use records::HazardRecord;
+use records::record_of;
 ghost use mathlib.Core.Path.{_≡_};
-ghost use Rattle.gpos_c.specs.Layout.{doneNumber, flag, toC, hazardOf, hazardKindNumber, listOf, movedNumber};
-ghost use Rattle.gpos_c.specs.Layout.{neighbour, set, laid as Layout·laid};
-
-#[repr(C)]
-pub struct CHazard {
-    pub kind: u32,
-    pub start: usize,
-    pub end: usize,
-}
+ghost use Rattle.gpos_c.specs.Layout.{doneNumber, flag, toC, listOf, movedNumber, neighbour, notRun, ranToC, set};
+ghost use Rattle.gpos_c.specs.Layout.{laid as Layout·laid, settings as Layout·settings};
 
 #[repr(C)]
 pub struct CAnswer {
@@ -25,13 +20,21 @@ pub struct CAnswer {
     pub attached: u32,
     pub count: u32,
     pub next: usize,
-    pub hazard: [CHazard; 2],
+    pub hazard: [HazardRecord; 2],
+}
+
+#[repr(C)]
+pub struct CRan {
+    pub refusal: u32,
+    pub attached: u32,
+    pub index: usize,
+    pub count: usize,
 }
 
 // An answer's hazards as C sees them.
 struct List {
     count: u32,
-    hazard: [CHazard; 2],
+    hazard: [HazardRecord; 2],
 }
 
 // A flag from C: any number but 0 sets it.
@@ -75,28 +78,8 @@ pub fn moved_number(m: Moved) -> u32
     }
 }
 
-fn hazard_kind_number(k: HazardKind) -> u32
-    ensures { λ r. ⌜ r ≡ hazardKindNumber k ⌝ }
-{
-    match k {
-        HazardKind::UnsafeToBreak => 1,
-        HazardKind::UnsafeToConcat => 2,
-    }
-}
-
-fn hazard_of(h: Hazard) -> CHazard
-    ensures { λ r. ⌜ r ≡ hazardOf h ⌝ }
-{
-    let k = h.kind;
-    CHazard {
-        kind: hazard_kind_number(k),
-        start: h.start,
-        end: h.end,
-    }
-}
-
 // Zeros where there is no hazard.
-const NO_HAZARD: CHazard = CHazard {
+const NO_HAZARD: HazardRecord = HazardRecord {
     kind: 0,
     start: 0,
     end: 0,
@@ -113,11 +96,11 @@ fn list_of(hs: Hazards) -> List
         },
         Hazards::One(h) => List {
             count: 1,
-            hazard: [hazard_of(h), NO_HAZARD],
+            hazard: [record_of(h), NO_HAZARD],
         },
         Hazards::Two(h, g) => List {
             count: 2,
-            hazard: [hazard_of(h), hazard_of(g)],
+            hazard: [record_of(h), record_of(g)],
         },
     }
 }
@@ -155,5 +138,51 @@ pub fn to_c(a: Answer) -> CAnswer
         } => laid(1, 0, flag_of(attached), next, hazards),
         Answer::Declined { hazards } => laid(2, 0, 0, 0, hazards),
         Answer::Refused(x) => laid(3, refusal_number(x), 0, 0, Hazards::None),
+    }
+}
+
+// What a run is told, from C.
+pub fn settings_of(size: usize, kind: u32, flag: u32, direction: u32, s: u32, u: u32) -> Settings
+    ensures { λ r. ⌜ r ≡ Layout·settings size kind flag direction s u ⌝ }
+{
+    Settings {
+        size: size,
+        kind: kind,
+        flag: flag,
+        direction: direction,
+        s: s,
+        u: u,
+    }
+}
+
+pub fn ran_to_c(r: Ran) -> CRan
+    ensures { λ x. ⌜ x ≡ ranToC r ⌝ }
+{
+    match r {
+        Ran::Done { records, attached } => CRan {
+            refusal: 0,
+            attached: flag_of(attached),
+            index: 0,
+            count: records,
+        },
+        Ran::Endless { index, records } => CRan {
+            refusal: 7,
+            attached: 0,
+            index: index,
+            count: records,
+        },
+        Ran::Refused(x) => not_run(refusal_number(x)),
+        Ran::Unfit => not_run(8),
+    }
+}
+
+fn not_run(number: u32) -> CRan
+    ensures { λ r. ⌜ r ≡ notRun number ⌝ }
+{
+    CRan {
+        refusal: number,
+        attached: 0,
+        index: 0,
+        count: 0,
     }
 }

@@ -3,23 +3,28 @@
 mod layout;
 
 pub use layout::CAnswer;
-pub use layout::CHazard;
+pub use layout::CRan;
 use layout::done_number;
 use layout::is_set;
 pub use layout::laid;
 use layout::moved_number;
 use layout::neighbour_of;
+use layout::ran_to_c;
+use layout::settings_of;
 use layout::to_c;
+use records::HazardRecord;
 ghost use Rattle.gpos.specs.CursivePos.{CursiveCall};
 ghost use Rattle.gpos.specs.Finishing.{FinishCall};
 ghost use Rattle.gpos.specs.MarkPos.{MarkCall};
 ghost use Rattle.gpos.specs.Moving.{ToClustersCall, FromClustersCall};
 ghost use Rattle.gpos.specs.PairPos.{PairCall};
+ghost use Rattle.gpos.specs.Running.{LookupCall};
 ghost use Rattle.gpos.specs.SinglePos.{SingleCall};
 ghost use Rattle.gpos.specs.Starting.{StartCall};
 ghost use Rattle.targets.specs.declared.mark_pos.Target.the-variants.{Base, Ligature};
 ghost use Rattle.targets.specs.declared.place.Way.the-variants.{Search, Earlier};
-ghost use Rattle.gpos_c.specs.Layout.{doneNumber, toC, IsLayoutOf, movedNumber, neighbour, set};
+ghost use Rattle.gpos_c.specs.Layout.{doneNumber, toC, IsLayoutOf, movedNumber, neighbour, ranToC, set};
+ghost use Rattle.gpos_c.specs.Layout.{settings};
 
 #[no_mangle]
 pub extern "C" fn gpos_start(line: &mut [u8], size: usize) -> u32
@@ -170,6 +175,33 @@ pub extern "C" fn gpos_mark_mark(
         u,
         index,
         neighbour_of(missing, earlier),
+    ))
+}
+
+// Proved by hand, since the kit covers no list of structs.
+#[no_mangle]
+pub extern "C" fn gpos_lookup(
+    line: &mut [u8],
+    size: usize,
+    kind: u32,
+    flag: u32,
+    subtables: &[u8],
+    lengths: &[usize],
+    direction: u32,
+    s: u32,
+    u: u32,
+    list: &mut [HazardRecord],
+) -> CRan
+    ensures { λ r. ⌜ IsLayoutOf ranToC (λ a. LookupCall (settings size kind flag direction s u) (now (line .entry))
+        (now (subtables .entry)) (now (lengths .entry)) (now (list .entry)) a (now (line .exit))
+        (now (list .exit))) r ⌝ }
+{
+    ran_to_c(gpos::lookup(
+        line,
+        subtables,
+        lengths,
+        list,
+        settings_of(size, kind, flag, direction, s, u),
     ))
 }
 

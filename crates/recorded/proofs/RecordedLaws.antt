@@ -15,7 +15,7 @@ use Rattle.ints.proofs.BigEndianLaws.{natAt-fits}
 use Rattle.ints.proofs.SignedLaws.{signed-same}
 use Rattle.ints.proofs.TestLaws.{clash}
 use Rattle.gpos_c.specs.declared.layout.CAnswer.{CAnswer}
-use Rattle.gpos_c.specs.declared.layout.CHazard.{CHazard}
+use Rattle.records.specs.declared.HazardRecord.{HazardRecord}
 
 -- two patterns of four bytes that stand for the same integer are the same
 pub pattern-at : (l : List ℕ) (at r : ℕ) → AllBytes l → r < 4294967296 → val r ≡ intAt 4 l at → r ≡ natAt 4 l at
@@ -35,9 +35,9 @@ pub length-mapped : (A B : Type 0) (f : A → B) (l : List A) (n : ℕ) → leng
 length-mapped A B f l n e = sym (length-map l f) ∙ e
 
 -- where kind and start agree, the test of the end decides
-pub hazard-by-end : (a b : CHazard) → a .kind ≡ b .kind → a .start ≡ b .start → eqb (a .end) (b .end) ≡ true ↔ a ≡ b
+pub hazard-by-end : (a b : HazardRecord) → a .kind ≡ b .kind → a .start ≡ b .start → eqb (a .end) (b .end) ≡ true ↔ a ≡ b
 hazard-by-end a b kind start =
-    (λ e. let end = eqb-true (a .end) (b .end) e in λ i. record { kind = kind i; start = start i; end = end i }, λ p. eq-eqb (a .end) (b .end) (ap (λ (h : CHazard). h .end) p))
+    (λ e. let end = eqb-true (a .end) (b .end) e in λ i. record { kind = kind i; start = start i; end = end i }, λ p. eq-eqb (a .end) (b .end) (ap (λ (h : HazardRecord). h .end) p))
 
 -- a list of two is its elements
 two : {A : Type 0} (d : A) (l : List A) → length l ≡ 2 → l ≡ getD l 0 d ∷ getD l 1 d ∷ []
@@ -47,13 +47,13 @@ two d (x ∷ y ∷ []) e = refl
 two d (x ∷ y ∷ z ∷ l) e = absurd (omega arith)
 
 -- where the first hazards differ, so do the lists
-pub other-first : (a b : List CHazard) (d : CHazard) (r : Bool) → (r ≡ true ↔ getD a 0 d ≡ getD b 0 d) → r ≡ false → false ≡ true ↔ a ≡ b
-other-first a b d r first n = refuted (λ p. let e = first .1 (ap (λ (l : List CHazard). getD l 0 d) p) in clash (cc))
+pub other-first : (a b : List HazardRecord) (d : HazardRecord) (r : Bool) → (r ≡ true ↔ getD a 0 d ≡ getD b 0 d) → r ≡ false → false ≡ true ↔ a ≡ b
+other-first a b d r first n = refuted (λ p. let e = first .1 (ap (λ (l : List HazardRecord). getD l 0 d) p) in clash (cc))
 
 -- where the first of two hazards agree, the second ones decide
-pub hazards-by-second : (a b : List CHazard) (d : CHazard) (r : Bool) → length a ≡ 2 → length b ≡ 2 → getD a 0 d ≡ getD b 0 d → (r ≡ true ↔ getD a 1 d ≡ getD b 1 d) → r ≡ true ↔ a ≡ b
+pub hazards-by-second : (a b : List HazardRecord) (d : HazardRecord) (r : Bool) → length a ≡ 2 → length b ≡ 2 → getD a 0 d ≡ getD b 0 d → (r ≡ true ↔ getD a 1 d ≡ getD b 1 d) → r ≡ true ↔ a ≡ b
 hazards-by-second a b d r n m first second =
-    (λ e. let other = second .0 e in cc (two d a n, two d b m), λ p. second .1 (ap (λ (l : List CHazard). getD l 1 d) p))
+    (λ e. let other = second .0 e in cc (two d a n, two d b m), λ p. second .1 (ap (λ (l : List HazardRecord). getD l 1 d) p))
 
 -- where the numbers agree, the hazards decide
 pub answer-by-hazards : (a b : CAnswer) (r : Bool) → a .status ≡ b .status → a .refusal ≡ b .refusal → a .attached ≡ b .attached → a .count ≡ b .count → a .next ≡ b .next

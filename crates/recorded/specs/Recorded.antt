@@ -5,7 +5,7 @@ use Prim.Native.Nat.{ℕ, _+_, _*_}
 use lib.Dec.{ltb}
 use Rattle.ints.specs.BigEndian.{natAt}
 use Rattle.ints.specs.Choice.{if_then_else_}
-use Rattle.gpos_c.specs.declared.layout.CHazard.{CHazard}
+use Rattle.records.specs.declared.HazardRecord.{HazardRecord}
 use Rattle.gpos_c.specs.declared.layout.CAnswer.{CAnswer}
 use Rattle.recorded.specs.declared.numbers.Call.{Call}
 use Rattle.recorded.specs.declared.numbers.Numbers.{Numbers}
@@ -33,7 +33,7 @@ numbersOf head = record {
 }
 
 -- the hazard in the three numbers from number k on
-abbrev pub recordedHazard : List ℕ → ℕ → CHazard
+abbrev pub recordedHazard : List ℕ → ℕ → HazardRecord
 recordedHazard head k = record { kind = numberAt head k; start = numberAt head (k + 1); end = numberAt head (k + 2) }
 
 -- the answer

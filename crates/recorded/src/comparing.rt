@@ -2,13 +2,13 @@
 use crate::numbers::Numbers;
 use crate::numbers::has_target;
 use gpos_c::CAnswer;
-use gpos_c::CHazard;
+use records::HazardRecord;
 ghost use mathlib.Core.Bool.{true};
 ghost use mathlib.Core.Logic.{_↔_};
 ghost use mathlib.Core.Path.{_≡_};
 ghost use Rattle.recorded.specs.Recorded.{afterwards};
 
-fn is_hazard(a: CHazard, b: CHazard) -> bool
+fn is_hazard(a: HazardRecord, b: HazardRecord) -> bool
     ensures { λ r. ⌜ r ≡ true ↔ a ≡ b ⌝ }
 {
     if a.kind != b.kind {
@@ -21,7 +21,7 @@ fn is_hazard(a: CHazard, b: CHazard) -> bool
 }
 
 // Whether the hazards of two answers are the same.
-fn is_hazards(a: [CHazard; 2], b: [CHazard; 2]) -> bool
+fn is_hazards(a: [HazardRecord; 2], b: [HazardRecord; 2]) -> bool
     ensures { λ r. ⌜ r ≡ true ↔ a ≡ b ⌝ }
 {
     let first = a[0];

@@ -2,7 +2,7 @@
 // stands.
 use crate::kinds::MARK_MARK;
 use gpos_c::CAnswer;
-use gpos_c::CHazard;
+use records::HazardRecord;
 ghost use mathlib.Core.Path.{_≡_};
 ghost use Prim.Native.Nat.{_+_, _<_, _≤_};
 ghost use lib.ListN.{length};
@@ -78,11 +78,11 @@ fn numbers_of(head: &[u8; 96]) -> Numbers
 }
 
 // The hazard in the three numbers from number k on.
-fn hazard_at(head: &[u8; 96], k: usize) -> CHazard
+fn hazard_at(head: &[u8; 96], k: usize) -> HazardRecord
     requires { ⌜ k < 22 ⌝ }
     ensures { λ r. ⌜ r ≡ recordedHazard (now (head .entry)) k ⌝ }
 {
-    CHazard {
+    HazardRecord {
         kind: number(head, k),
         start: place(head, k + 1),
         end: place(head, k + 2),

@@ -2,8 +2,8 @@
 use crate::printing::print;
 use crate::printing::print_one;
 use gpos_c::CAnswer;
-use gpos_c::CHazard;
 use ints::big_endian::Signed;
+use records::HazardRecord;
 
 // A number below 2 ^ 31, as those of slots are.
 fn short(n: usize) -> Signed {
@@ -21,7 +21,7 @@ fn show_status(a: CAnswer) {
 }
 
 // A hazard, where there is one.
-fn show_hazard(h: CHazard) {
+fn show_hazard(h: HazardRecord) {
     let ends = [short(h.start), short(h.end), 0, 0, 0, 0, 0];
     let kind = h.kind;
     match kind {
