@@ -70,16 +70,15 @@ static const uint8_t vowels_on_letters[] = {
 typedef struct {
     uint32_t type, flag, feature;
     uint32_t mark_set; /* if the flag says that there is one */
+    const uint8_t *subtables; /* end to end */
+    size_t subtables_len;
+    size_t lens[1]; /* of each subtable, here one: gpos_subtable_len, in a font */
     size_t subtable_count;
-    struct {
-        const uint8_t *bytes;
-        size_t len; /* gpos_subtable_len, in a font */
-    } subtables[1]; /* as many as the lookup has: here one */
 } lookup;
 
 static const lookup lookups[] = {
-    {2, GPOS_LOOKUP_IGNORE_MARKS, KERN, 0, 1, {{kern_pairs, sizeof kern_pairs}}},
-    {4, 0, MARKS, 0, 1, {{vowels_on_letters, sizeof vowels_on_letters}}},
+    {2, GPOS_LOOKUP_IGNORE_MARKS, KERN, 0, kern_pairs, sizeof kern_pairs, {sizeof kern_pairs}, 1},
+    {4, 0, MARKS, 0, vowels_on_letters, sizeof vowels_on_letters, {sizeof vowels_on_letters}, 1},
 };
 enum { LOOKUPS = sizeof lookups / sizeof *lookups };
 
@@ -128,83 +127,45 @@ static bool skips(const lookup *l, size_t i) {
 /* Whether the lookup, where it looks for a glyph beside the one at hand, sees this one: it takes
    the first that it sees. (This label has no ZWJ, which is seen in the features mark and mkmk.) */
 static bool sees(const lookup *l, size_t i) {
-    if (glyphs[i].ignorable) return false;
+    if (glyphs[i].ignorable || !in_feature(l, i)) return false;
     switch (l->type) {
     case 4:
-    case 5: return glyphs[i].gdef_class != MARK && in_feature(l, i);
+    case 5: return glyphs[i].gdef_class != MARK;
     case 6: return !leaves_out(l, i); /* letters too, whatever the flag: the search ends there */
     default: return !skips(l, i);
     }
 }
 
-/* For lookups of type 4 and 5, whose calls look for a mark's base themselves. */
-static void set_seen(const lookup *l) {
+/* A glyph that the lookup isn't for has, while it runs, a number that no subtable covers; but a
+   base that a mark may be put on keeps its own. */
+enum { NO_GLYPH = 0xFFFF };
+
+static bool is_for(const lookup *l, size_t i) {
+    if ((l->type == 4 || l->type == 5) && sees(l, i)) return true;
+    return in_feature(l, i) && !skips(l, i);
+}
+
+static void prepare(const lookup *l) {
     for (size_t i = 0; i < COUNT; i++) {
         gpos_slot s = gpos_get_slot(slot(i));
         s.flags = (uint8_t)((s.flags & ~GPOS_SLOT_SEEN) | (sees(l, i) ? GPOS_SLOT_SEEN : 0));
+        s.glyph = is_for(l, i) ? glyphs[i].glyph : NO_GLYPH;
         gpos_put_slot(slot(i), s);
     }
 }
 
-typedef struct {
-    uint32_t missing;
-    size_t slot; /* or how far was looked */
-} neighbour;
-
-/* The second glyph of a pair. */
-static neighbour next_of(const lookup *l, size_t i) {
-    for (size_t j = i + 1; j < COUNT; j++) {
-        if (!sees(l, j)) continue;
-        if (in_feature(l, j)) return (neighbour){GPOS_NEIGHBOUR_NAMED, j};
-        return (neighbour){GPOS_NEIGHBOUR_MISSING, j + 1};
-    }
-    return (neighbour){GPOS_NEIGHBOUR_MISSING, COUNT};
-}
-
-/* The glyph that a cursive one joins, or on which a mark goes if it is a mark too. */
-static neighbour previous_of(const lookup *l, size_t i) {
-    for (size_t j = i; j-- > 0;) {
-        if (!sees(l, j)) continue;
-        if (in_feature(l, j)) return (neighbour){GPOS_NEIGHBOUR_NAMED, j};
-        return (neighbour){GPOS_NEIGHBOUR_MISSING, j > 0 ? j - 1 : 0};
-    }
-    return (neighbour){GPOS_NEIGHBOUR_MISSING, 0};
-}
-
-#define AT(i) line, sizeof line, SIZE, bytes, len, direction, EM_SIZE, UNITS_PER_EM, i
-
-static gpos_answer apply_subtable(const lookup *l, const uint8_t *bytes, size_t len, size_t i) {
-    neighbour n;
-    switch (l->type) {
-    case 1: return gpos_single(AT(i));
-    case 2: n = next_of(l, i); return gpos_pair(AT(i), n.missing, n.slot);
-    case 3: n = previous_of(l, i); return gpos_cursive(AT(i), n.missing, n.slot, l->flag);
-    case 4: return gpos_mark_base(AT(i));
-    case 5: return gpos_mark_ligature(AT(i));
-    default: n = previous_of(l, i); return gpos_mark_mark(AT(i), n.missing, n.slot);
-    }
-}
-
-/* Tries the lookup's subtables at slot i. Says where to go on, and notes whether one attached. */
-static size_t apply_at(const lookup *l, size_t i, bool *attached) {
-    for (size_t k = 0; k < l->subtable_count; k++) {
-        gpos_answer a = apply_subtable(l, l->subtables[k].bytes, l->subtables[k].len, i);
-        if (a.status == GPOS_STATUS_APPLIED) {
-            *attached |= a.attached;
-            return a.next;
-        }
-        /* Declined, or the font is bad: passed over. Other refusals are this program's mistake. */
-        if (a.refusal != GPOS_REFUSED_SUBTABLE && a.refusal != GPOS_REFUSED_ENDLESS)
-            must("applying", a.refusal);
-    }
-    return i + 1;
-}
+static gpos_hazard hazards[GPOS_PLACES(COUNT, 1)]; /* of a lookup of one subtable; not used here */
+enum { PLACES = sizeof hazards / sizeof *hazards };
 
 static void apply_lookup(const lookup *l, bool *attached) {
     if (l->type < 1 || l->type > 6) return; /* not in the library */
-    if (l->type == 4 || l->type == 5) set_seen(l);
-    for (size_t i = 0; i < COUNT;)
-        i = in_feature(l, i) && !skips(l, i) ? apply_at(l, i, attached) : i + 1;
+    prepare(l);
+    gpos_run r = gpos_lookup(line, sizeof line, SIZE, l->type, l->flag, l->subtables,
+                             l->subtables_len, l->lens, l->subtable_count, direction, EM_SIZE,
+                             UNITS_PER_EM, hazards, PLACES);
+    *attached |= r.attached;
+    /* The font is bad: the lookup is passed over. Other refusals are this program's mistake. */
+    if (r.refusal != GPOS_REFUSED_SUBTABLE) must("gpos_lookup", r.refusal);
 }
 
 /* ---- After the lookups */
@@ -212,6 +173,7 @@ static void apply_lookup(const lookup *l, bool *attached) {
 static void clear_advances(void) {
     for (size_t i = 0; i < COUNT; i++) {
         gpos_slot s = gpos_get_slot(slot(i));
+        s.glyph = glyphs[i].glyph; /* whichever lookup ran last */
         if (glyphs[i].gdef_class == MARK || glyphs[i].ignorable) s.x_advance = s.y_advance = 0;
         gpos_put_slot(slot(i), s);
     }

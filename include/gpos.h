@@ -10,12 +10,8 @@
  *
  *     gpos_start                       forget old attachments
  *     for each lookup, in the order of the font's lookup list:
- *         set GPOS_SLOT_SEEN (lookup types 4 and 5)
- *         at each slot from 0 up, unless its glyph is outside the lookup's feature, or the
- *         lookup's flag skips it:
- *             try the lookup's subtables in turn, by gpos_single, gpos_pair, gpos_cursive,
- *             gpos_mark_base, gpos_mark_ligature or gpos_mark_mark; the first that applies
- *             ends the turn, and its answer says at which slot to go on
+ *         set GPOS_SLOT_SEEN on the glyphs that it sees
+ *         gpos_lookup                  run it over the line
  *     set the advances of marks and of default ignorables to 0 (if your shaper does; most do)
  *     gpos_finish                      turn attachments into offsets
  *     draw                             (default ignorables aren't shown)
@@ -76,9 +72,10 @@
  *
  * WHAT A CALL ANSWERS. gpos_start, gpos_finish and the moves return GPOS_DONE, which is 0, or the
  * number of a refusal. The others return a gpos_answer: applied, declined, or refused with a
- * number. Where a call declines or refuses, no byte of the line, or of a move's target, has
- * changed. A subtable never changes, nor does a line that is moved. The lowest number that applies
- * is given:
+ * number; and gpos_lookup a gpos_run. Where a call declines or refuses, no byte of the line, of the
+ * list or of a move's target has changed, but for a run that stops at refusal 7. A subtable never
+ * changes, nor does a line that is moved. The lowest number that applies
+ * is given (by gpos_lookup 8 before 6):
  *
  *     1   GPOS_REFUSED_LINE        the slot size is neither 24 nor 28; or the line's length is no
  *                                  multiple of it, or above 24,576 for slots of 24 bytes, 28,672
@@ -97,21 +94,26 @@
  *                                  parts that are cut are as good as missing
  *     7   GPOS_REFUSED_ENDLESS     what a mark goes on, base, ligature or mark, hangs on a ring of
  *                                  cursive attachments
+ *     8   GPOS_REFUSED_LIST        a lookup hasn't 1 to 8 subtables, their lengths don't add up to
+ *                                  the buffer, or its list has fewer places than twice the slots
+ *                                  times the subtables
  *    10   GPOS_REFUSED_MOVE        the target of a move doesn't have the length of the moved line;
  *                                  or, moving back, a cluster isn't its slot's number and would be
  *                                  lost
  *
- * 1 to 5 and 10 are the caller's bug (3 also a font's, if its unitsPerEm is out of range): stop,
+ * 1 to 5, 8 and 10 are the caller's bug (3 also a font's, if its unitsPerEm is out of range): stop,
  * and mend the call. 6 is a bad font, a subtable of another type (which is not always noticed), or
  * more than 65,536 bytes passed (gpos_subtable_len has how many): pass over the subtable, as if it
- * had declined. 7, if the line was started, is a font whose cursive lookups hang glyphs in a ring:
- * pass over likewise. If it wasn't, don't draw it: start it. The numbers 8 and 9 are not given.
+ * had declined, or leave it out of the lookup. 7, if the line was started, is a font whose cursive
+ * lookups hang glyphs in a ring: pass over likewise. If it wasn't, don't draw it: start it. The
+ * number 9 is not given.
  *
  *
  * WHAT YOU GUARANTEE, and nothing checks:
  *
  *   - each pointer leads to as many bytes as you say (NULL with length 0 is fine);
- *   - the line and the subtable don't overlap, nor do the line and the target of a move;
+ *   - the line and the subtable don't overlap, nor do the line and the target of a move, nor a
+ *     lookup's list and any of its other memory, and the list is aligned as C aligns it;
  *   - nobody else writes to what you lend, or reads what the call writes (the line, or the target
  *     of a move), while the call runs;
  *   - there is stack: gpos_cursive takes up to 328 bytes and 80 for each slot of the line, when an
@@ -126,8 +128,8 @@
  *
  * COST. Every call reads all slots of the line (some 2 instructions a slot), and every call that
  * applies a subtable all its coverage and class lists (some 11 and 20 an entry), also where it
- * declines: a lookup over n slots reads each of them n times. SPEED.md, beside GUIDE.md, has
- * counts. */
+ * declines. gpos_lookup does both once for the whole line, and goes over its slots once, so that
+ * its cost grows as the line does. SPEED.md, beside GUIDE.md, has counts. */
 #ifndef GPOS_H
 #define GPOS_H
 
@@ -139,10 +141,11 @@ extern "C" {
 #endif
 
 /* The version of this file and of the library that was installed with it. Up to 0.3.0 a number at a
- * tie of the scale (below) went up; from 0.4.0 on it goes away from zero. */
-#define GPOS_VERSION "0.4.0"
+ * tie of the scale (below) went up; from 0.4.0 on it goes away from zero. gpos_lookup came with
+ * 0.5.0. */
+#define GPOS_VERSION "0.5.0"
 #define GPOS_VERSION_MAJOR 0
-#define GPOS_VERSION_MINOR 4
+#define GPOS_VERSION_MINOR 5
 #define GPOS_VERSION_PATCH 0
 
 /* Bytes of a slot, without a cluster and with one; the most slots in a line; the most bytes of a
@@ -165,12 +168,16 @@ typedef enum {
 
 /* Bits of a slot's flags. */
 typedef enum {
-    /* Only gpos_mark_base and gpos_mark_ligature look at it, when they search for what the mark
-     * goes on. Before each such lookup clear it on marks, on default ignorables (ZWNJ, CGJ, SHY and
-     * all others that Unicode calls so, unless a substitution made another glyph of one), and on
-     * glyphs outside the lookup's feature, which the search then passes over; set it on all others,
-     * whatever the lookup's flag. ZWJ is a default ignorable too, but in lookups of the features
-     * mark and mkmk HarfBuzz leaves it seen: a mark behind a ZWJ stays where it is. */
+    /* Where a lookup looks for another glyph beside the one at hand, it takes the nearest that is
+     * seen. gpos_lookup goes by it for pairs, cursive glyphs and marks on marks; gpos_mark_base and
+     * gpos_mark_ligature, in a run or not, when they search for what the mark goes on; other single
+     * calls don't look at it. Before each lookup clear it on default ignorables (ZWNJ, CGJ, SHY and
+     * all others that Unicode calls so, unless a substitution made another glyph of one) and on
+     * glyphs outside the lookup's feature, which the search then passes over; for types 2 and 3
+     * also on glyphs that the lookup's flag skips, for types 4 and 5 on marks, whatever the flag,
+     * for type 6 on marks that the flag leaves out by class or by set; and set it on all others.
+     * ZWJ is a default ignorable too, but in lookups of the features mark and mkmk HarfBuzz leaves
+     * it seen: a mark behind a ZWJ stays where it is. */
     GPOS_SLOT_SEEN = 1,
     /* The glyph is a mark: class 3 of GDEF. It doesn't hide the glyph from the search; a clear
      * GPOS_SLOT_SEEN does. gpos_mark_mark puts a mark on no glyph without it. */
@@ -308,7 +315,9 @@ uint32_t gpos_finish(uint8_t *line, size_t line_len, size_t slot_size, uint32_t 
  * only. (How long a subtable is: see below.)
  * Neighbours go by GPOS_SLOT_SEEN, which you set for each lookup before it runs: the second glyph
  * of a pair is the next seen slot; what a cursive glyph joins, or an earlier mark, the last seen
- * slot before. The slot at hand is tried whether it is seen or not.
+ * slot before. The slot at hand is tried whether it is seen or not: give a glyph that the lookup
+ * isn't for (its flag skips it, or it is outside its feature) a number that no subtable covers,
+ * 0xFFFF, while the lookup runs.
  * The hazards of every call made, also of those that declined, go into `list` in the order in which
  * they arise; its places behind these keep what they held, and of a record that is written bytes 4
  * to 7, which are padding, may hold anything. It must have twice as many places as slots times
