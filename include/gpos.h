@@ -91,7 +91,8 @@
  *     6   GPOS_REFUSED_SUBTABLE    the subtable is over 65,536 bytes, its fixed header is cut, its
  *                                  format is unknown, a value format is above 255, or one of its
  *                                  coverage or class lists is cut, unknown or out of order; other
- *                                  parts that are cut are as good as missing
+ *                                  parts that are cut are as good as missing. Of a lookup: one of
+ *                                  its subtables is so, or its type is not from 1 to 6
  *     7   GPOS_REFUSED_ENDLESS     what a mark goes on, base, ligature or mark, hangs on a ring of
  *                                  cursive attachments
  *     8   GPOS_REFUSED_LIST        a lookup hasn't 1 to 8 subtables, their lengths don't add up to
