@@ -163,9 +163,10 @@ static void apply_lookup(const lookup *l, bool *attached) {
     gpos_run r = gpos_lookup(line, sizeof line, SIZE, l->type, l->flag, l->subtables,
                              l->subtables_len, l->lens, l->subtable_count, direction, EM_SIZE,
                              UNITS_PER_EM, hazards, PLACES);
-    *attached |= r.attached;
-    /* The font is bad: the lookup is passed over. Other refusals are this program's mistake. */
-    if (r.refusal != GPOS_REFUSED_SUBTABLE) must("gpos_lookup", r.refusal);
+    bool stopped = r.refusal == GPOS_REFUSED_ENDLESS; /* a bad font; some call may have attached */
+    *attached |= r.attached || stopped;
+    /* 6 is a bad font too: the lookup is passed over. Others are this program's mistake. */
+    if (!stopped && r.refusal != GPOS_REFUSED_SUBTABLE) must("gpos_lookup", r.refusal);
 }
 
 /* ---- After the lookups */

@@ -259,7 +259,8 @@ typedef struct {
 /* What gpos_lookup answers. What a case doesn't have is 0. */
 typedef struct {
     uint32_t refusal;  /* GPOS_DONE, or 1, 2, 3, 4, 8, 6; or 7: stopped at index */
-    uint32_t attached; /* done: 1 if some call attached, so that gpos_finish is needed */
+    uint32_t attached; /* done: 1 if some call attached, so that gpos_finish is needed; stopped: 0,
+                          though some call may have */
     size_t index;      /* stopped: the slot whose call was refused with 7 */
     size_t count;      /* done or stopped: how many hazards were put into the list */
 } gpos_run;

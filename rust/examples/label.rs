@@ -1,8 +1,8 @@
 //! A label from right to left, from shaped glyphs to drawn places: the Persian word for rooms, ghurfa-ha, with a vowel
 //! mark, two kerned pairs and a ZWNJ. It is examples/label.c in Rust, and draws the same; docs/GUIDE.md, which is the
 //! module `gpos::guide` too, explains the code.
-use gpos::{cursive, finish, mark_base, mark_ligature, mark_mark, pair, single, slots_of, start, write_slots};
-use gpos::{At, Direction, Form, Neighbour, Outcome, Refusal, Scale, Slot, WrongForm};
+use gpos::{finish, lookup, places, slots_of, start, write_slots};
+use gpos::{Direction, Form, HazardRecord, RunError, Scale, Slot, WrongForm};
 use gpos::{LOOKUP_IGNORE_BASES, LOOKUP_IGNORE_LIGATURES, LOOKUP_IGNORE_MARKS, NESTING_LIMIT};
 use gpos::{LOOKUP_MARK_ATTACHMENT_CLASS, LOOKUP_USE_MARK_FILTERING_SET};
 use std::error::Error;
@@ -104,17 +104,32 @@ struct Lookup {
     feature: u32,
     /// The number of its set of marks, if the flag says that there is one.
     mark_set: u16,
-    subtables: Vec<Vec<u8>>,
+    /// Its subtables that are good, end to end.
+    subtables: Vec<u8>,
+    /// How long each is.
+    lengths: Vec<usize>,
+}
+
+/// Whether a subtable is good, and of a type that is in the library: a run over an empty line checks that alone.
+fn is_good(lookup_type: u16, subtable: &[u8]) -> bool {
+    let alone = gpos::Lookup { lookup_type, flag: 0, subtables: subtable, lengths: &[subtable.len()] };
+    lookup(&mut [], FORM, alone, DIRECTION, SCALE, &mut []).is_ok()
+}
+
+/// A lookup of these subtables: a bad one is left out.
+fn lookup_of(lookup_type: u16, flag: u16, feature: u32, mut subtables: Vec<Vec<u8>>) -> Lookup {
+    subtables.retain(|subtable| is_good(lookup_type, subtable));
+    let lengths = subtables.iter().map(Vec::len).collect();
+    Lookup { lookup_type, flag, feature, mark_set: 0, subtables: subtables.concat(), lengths }
 }
 
 /// A program with a font takes the bytes of a subtable from its GPOS table, by `gpos::subtable`.
 fn lookups() -> [Lookup; 2] {
     let bytes = |words: &[u16]| words.iter().flat_map(|word| word.to_be_bytes()).collect();
-    let lookup = |lookup_type, flag, feature, words: &[u16]| {
-        let (mark_set, subtables) = (0, vec![bytes(words)]);
-        Lookup { lookup_type, flag, feature, mark_set, subtables }
-    };
-    [lookup(2, LOOKUP_IGNORE_MARKS, KERN, &KERN_PAIRS), lookup(4, 0, MARKS, &VOWELS_ON_LETTERS)]
+    [
+        lookup_of(2, LOOKUP_IGNORE_MARKS, KERN, vec![bytes(&KERN_PAIRS)]),
+        lookup_of(4, 0, MARKS, vec![bytes(&VOWELS_ON_LETTERS)]),
+    ]
 }
 
 // ---- Filling the slots
@@ -136,6 +151,9 @@ fn fill(line: &mut [u8]) -> Result<(), WrongForm> {
 }
 
 // ---- One lookup over the line
+
+/// What a slot has as its glyph while it is hidden: no font has a glyph of this number.
+const HIDDEN: u16 = 0xFFFF;
 
 impl Lookup {
     fn has(&self, glyph: &Glyph) -> bool {
@@ -169,82 +187,47 @@ impl Lookup {
     /// sees. (This label has no ZWJ, which is seen in the features mark and mkmk.)
     fn sees(&self, glyph: &Glyph) -> bool {
         !glyph.ignorable
+            && self.has(glyph)
             && match self.lookup_type {
-                4 | 5 => glyph.class != MARK && self.has(glyph),
+                4 | 5 => glyph.class != MARK,
                 6 => !self.leaves_out(glyph), // letters too, whatever the flag: the search ends there
                 _ => !self.skips(glyph),
             }
     }
 
-    /// For lookups of type 4 and 5, whose calls look for a mark's base themselves.
-    fn set_seen(&self, line: &mut [u8]) -> Result<(), WrongForm> {
+    /// Whether the glyph is hidden while the lookup runs: its flag skips it, or its feature is off there. But one that a
+    /// mark may be put on is not, whatever the flag.
+    fn hides(&self, glyph: &Glyph) -> bool {
+        let may_have_marks = matches!(self.lookup_type, 4 | 5) && self.sees(glyph);
+        !may_have_marks && (self.skips(glyph) || !self.has(glyph))
+    }
+
+    /// Sets the seen bits and hides glyphs, anew for each lookup.
+    fn prepare(&self, line: &mut [u8]) -> Result<(), WrongForm> {
         for (bytes, glyph) in line.chunks_exact_mut(FORM.size()).zip(&GLYPHS) {
             let mut slot = Slot::read(bytes)?;
             slot.flags = slot.flags & !Slot::SEEN | if self.sees(glyph) { Slot::SEEN } else { 0 };
+            slot.glyph = if self.hides(glyph) { HIDDEN } else { glyph.glyph };
             slot.write(bytes)?;
         }
         Ok(())
     }
 
-    /// The second glyph of a pair.
-    fn next_of(&self, i: usize) -> Neighbour {
-        match (i + 1..COUNT).find(|j| self.sees(&GLYPHS[*j])) {
-            Some(j) if self.has(&GLYPHS[j]) => Neighbour::Named(j),
-            Some(j) => Neighbour::Missing(j + 1),
-            None => Neighbour::Missing(COUNT),
-        }
-    }
-
-    /// The glyph that a cursive one joins, or on which a mark goes if it is a mark too.
-    fn previous_of(&self, i: usize) -> Neighbour {
-        match (0..i).rfind(|j| self.sees(&GLYPHS[*j])) {
-            Some(j) if self.has(&GLYPHS[j]) => Neighbour::Named(j),
-            Some(j) => Neighbour::Missing(j.saturating_sub(1)),
-            None => Neighbour::Missing(0),
-        }
-    }
-
-    fn apply_subtable(&self, line: &mut [u8], subtable: &[u8], i: usize) -> Result<Outcome, Refusal> {
-        let at = At { direction: DIRECTION, scale: SCALE, index: i };
-        match self.lookup_type {
-            1 => single(line, FORM, subtable, at),
-            2 => pair(line, FORM, subtable, at, self.next_of(i)),
-            3 => cursive(line, FORM, subtable, at, self.previous_of(i), self.flag),
-            4 => mark_base(line, FORM, subtable, at),
-            5 => mark_ligature(line, FORM, subtable, at),
-            _ => mark_mark(line, FORM, subtable, at, self.previous_of(i)),
-        }
-    }
-
-    /// Tries the lookup's subtables at slot i. Says where to go on, and whether one attached.
-    fn apply_at(&self, line: &mut [u8], i: usize) -> Result<(usize, bool), Refusal> {
-        for subtable in &self.subtables {
-            match self.apply_subtable(line, subtable, i) {
-                Ok(Outcome::Applied { next, attached, .. }) => return Ok((next, attached)),
-                // Declined, or the font is bad: passed over. Other refusals are this program's mistake.
-                Ok(Outcome::Declined { .. }) => {}
-                Err(refusal) if refusal.is_font_error() => {}
-                Err(refusal) => return Err(refusal),
-            }
-        }
-        Ok((i + 1, false))
-    }
-
     /// Says whether it attached.
     fn apply(&self, line: &mut [u8]) -> Result<bool, Box<dyn Error>> {
-        match self.lookup_type {
-            1..=3 | 6 => {}
-            4..=5 => self.set_seen(line)?,
-            _ => return Ok(false), // not in the library
+        let Self { lookup_type, flag, ref subtables, ref lengths, .. } = *self;
+        if lengths.is_empty() {
+            return Ok(false); // not in the library, or bad
         }
-        let (mut i, mut attachments) = (0, false);
-        while i < COUNT {
-            let here = self.has(&GLYPHS[i]) && !self.skips(&GLYPHS[i]);
-            let (next, attached) = if here { self.apply_at(line, i)? } else { (i + 1, false) };
-            i = next;
-            attachments |= attached;
+        self.prepare(line)?;
+        let mut hazards = vec![HazardRecord::default(); places(COUNT, lengths.len())]; // not looked at here
+        let run = gpos::Lookup { lookup_type, flag, subtables, lengths };
+        match lookup(line, FORM, run, DIRECTION, SCALE, &mut hazards) {
+            Ok(run) => Ok(run.attached),
+            // The font is bad: the rest of the lookup is passed over. A refusal is this program's mistake.
+            Err(RunError::Stopped { .. }) => Ok(true),
+            Err(error) => Err(error.into()),
         }
-        Ok(attachments)
     }
 }
 
@@ -252,9 +235,12 @@ impl Lookup {
 
 fn clear_advances(line: &mut [u8]) -> Result<(), WrongForm> {
     for (bytes, glyph) in line.chunks_exact_mut(FORM.size()).zip(&GLYPHS) {
+        let mut slot = Slot::read(bytes)?;
+        slot.glyph = glyph.glyph; // the last lookup may have hidden it
         if glyph.class == MARK || glyph.ignorable {
-            Slot { x_advance: 0, y_advance: 0, ..Slot::read(bytes)? }.write(bytes)?;
+            (slot.x_advance, slot.y_advance) = (0, 0);
         }
+        slot.write(bytes)?;
     }
     Ok(())
 }

@@ -3,8 +3,8 @@ use crate::ffi;
 use core::fmt;
 use core::ops::Range;
 
-/// Why a call was refused. The lowest number that applies is given, and no byte of the line, or of the target of a
-/// move, has changed.
+/// Why a call was refused. The lowest number that applies is given (but 8 goes before 6), and no byte of the line, or of
+/// the target of a move, has changed.
 #[derive(Clone, Copy, Debug, PartialEq, Eq, Hash)]
 #[non_exhaustive]
 pub enum Refusal {
@@ -23,15 +23,18 @@ pub enum Refusal {
     Index,
     /// 6: the subtable is over 65,536 bytes, its fixed header is cut, its format is unknown, a value format is above
     /// 255, or one of its coverage or class lists is cut, unknown or out of order. The font is bad: pass over the
-    /// subtable.
+    /// subtable. Of a [lookup](crate::lookup), any of its subtables is so, or its type is not from 1 to 6.
     ///
     /// No more is checked. Other parts that are cut are as good as missing: the call declines, or is applied, and a cut
     /// value record adds nothing. A subtable of another lookup type is not always noticed.
     Subtable,
     /// 7: what a mark goes on, base, ligature or mark, hangs on a chain of cursive attachments that never ends. On a
     /// line that was started, the font's cursive lookups hang glyphs in a ring: pass over the subtable. If it wasn't,
-    /// start it.
+    /// start it. (Of a lookup it is [`RunError::Stopped`](crate::RunError::Stopped).)
     Endless,
+    /// 8: the subtables of a [lookup](crate::lookup) are none or more than 8, their lengths don't add up to their bytes,
+    /// or the list has fewer than [`places`](crate::places).
+    List,
     /// 10: the target of a move hasn't the length of the moved line; or, moving back, a cluster is not its slot's
     /// number and would be lost.
     Move,
@@ -41,10 +44,19 @@ pub enum Refusal {
 }
 
 impl Refusal {
-    const NAMED: [Self; 8] =
-        [Self::Line, Self::Direction, Self::Range, Self::Slot, Self::Index, Self::Subtable, Self::Endless, Self::Move];
+    const NAMED: [Self; 9] = [
+        Self::Line,
+        Self::Direction,
+        Self::Range,
+        Self::Slot,
+        Self::Index,
+        Self::Subtable,
+        Self::Endless,
+        Self::List,
+        Self::Move,
+    ];
 
-    /// Its number, as the library gave it: 1 to 7 or 10, and any other for [`Refusal::Other`].
+    /// Its number, as the library gave it: 1 to 8 or 10, and any other for [`Refusal::Other`].
     pub const fn number(self) -> u32 {
         match self {
             Self::Line => 1,
@@ -54,6 +66,7 @@ impl Refusal {
             Self::Index => 5,
             Self::Subtable => 6,
             Self::Endless => 7,
+            Self::List => 8,
             Self::Move => 10,
             Self::Other(number) => number,
         }
@@ -84,6 +97,7 @@ impl fmt::Display for Refusal {
             Self::Index => "the index or the neighbour is out of place",
             Self::Subtable => "the subtable is too long, cut, of unknown format, or has a bad list",
             Self::Endless => "a chain of attachments never ends",
+            Self::List => "not 1 to 8 subtables, wrong lengths, or too short a list",
             Self::Move => "the target's length is wrong, or a cluster would be lost",
             Self::Other(number) => {
                 return write!(f, "the library answered {number}, unknown to this package: their versions differ")
@@ -116,6 +130,33 @@ pub struct Hazard {
     pub range: Range<usize>,
 }
 
+/// A hazard as the library writes it to a list that [`lookup`](crate::lookup) is lent: three numbers. By default they
+/// are 0, and a place that no hazard was put into keeps what it held.
+///
+/// Between `kind` and `start` lie four bytes that the library doesn't write: don't take a list for plain bytes.
+#[derive(Clone, Copy, Debug, Default, PartialEq, Eq, Hash)]
+#[repr(C)]
+pub struct HazardRecord {
+    /// 1 is [`HazardKind::UnsafeToBreak`], 2 is [`HazardKind::UnsafeToConcat`].
+    pub kind: u32,
+    /// The first slot.
+    pub start: usize,
+    /// One past the last slot. It may be past the line's end, or before the start: see [`Hazard::range`].
+    pub end: usize,
+}
+
+impl HazardRecord {
+    /// The hazard with these numbers.
+    pub const fn hazard(self) -> Hazard {
+        let kind = match self.kind {
+            ffi::UNSAFE_TO_BREAK => HazardKind::UnsafeToBreak,
+            ffi::UNSAFE_TO_CONCAT => HazardKind::UnsafeToConcat,
+            other => HazardKind::Other(other),
+        };
+        Hazard { kind, range: self.start..self.end }
+    }
+}
+
 /// What an applying call answers where it isn't refused.
 #[derive(Clone, Debug, PartialEq, Eq, Hash)]
 pub enum Outcome {
@@ -144,19 +185,10 @@ pub(crate) fn done(number: u32) -> Result<(), Refusal> {
     }
 }
 
-fn hazard(h: ffi::Hazard) -> Hazard {
-    let kind = match h.kind {
-        ffi::UNSAFE_TO_BREAK => HazardKind::UnsafeToBreak,
-        ffi::UNSAFE_TO_CONCAT => HazardKind::UnsafeToConcat,
-        other => HazardKind::Other(other),
-    };
-    Hazard { kind, range: h.start..h.end }
-}
-
 pub(crate) fn outcome(a: ffi::Answer) -> Result<Outcome, Refusal> {
     let [first, second] = a.hazard;
-    let first = (a.hazard_count > 0).then(|| hazard(first));
-    let second = (a.hazard_count > 1).then(|| hazard(second));
+    let first = (a.hazard_count > 0).then(|| first.hazard());
+    let second = (a.hazard_count > 1).then(|| second.hazard());
     match a.status {
         ffi::APPLIED => Ok(Outcome::Applied { next: a.next, hazards: [first, second], attached: a.attached != 0 }),
         ffi::DECLINED => Ok(Outcome::Declined { hazard: first }),
@@ -171,6 +203,7 @@ pub(crate) fn outcome(a: ffi::Answer) -> Result<Outcome, Refusal> {
 mod tests {
     extern crate std;
     use super::*;
+    use core::mem::offset_of;
     use std::string::ToString;
 
     const ANSWER: ffi::Answer = ffi::Answer {
@@ -180,18 +213,18 @@ mod tests {
         hazard_count: 2,
         next: 1,
         hazard: [
-            ffi::Hazard { kind: ffi::UNSAFE_TO_BREAK, start: 0, end: 1 },
-            ffi::Hazard { kind: ffi::UNSAFE_TO_CONCAT, start: 0, end: 2 },
+            HazardRecord { kind: ffi::UNSAFE_TO_BREAK, start: 0, end: 1 },
+            HazardRecord { kind: ffi::UNSAFE_TO_CONCAT, start: 0, end: 2 },
         ],
     };
 
     #[test]
     fn an_unknown_number_keeps_its_number_and_gets_no_name() {
-        for number in [0, 8, 9, 11, u32::MAX] {
+        for number in [0, 9, 11, u32::MAX] {
             assert_eq!(Refusal::of(number), Refusal::Other(number));
             assert_eq!(Refusal::of(number).number(), number);
         }
-        for number in [1, 2, 3, 4, 5, 6, 7, 10] {
+        for number in [1, 2, 3, 4, 5, 6, 7, 8, 10] {
             assert!(!matches!(Refusal::of(number), Refusal::Other(_)));
             assert_eq!(Refusal::of(number).number(), number);
         }
@@ -241,13 +274,14 @@ mod tests {
     fn an_unknown_kind_of_hazard_keeps_its_number_and_gets_no_name() {
         for kind in [0, 3, u32::MAX] {
             let unknown = Hazard { kind: HazardKind::Other(kind), range: 4..9 };
-            assert_eq!(hazard(ffi::Hazard { kind, start: 4, end: 9 }), unknown);
+            assert_eq!(HazardRecord { kind, start: 4, end: 9 }.hazard(), unknown);
         }
     }
 
     #[test]
     #[cfg(target_pointer_width = "64")]
     fn answers_have_the_layout_of_the_header() {
-        assert_eq!((size_of::<ffi::Hazard>(), size_of::<ffi::Answer>()), (24, 72));
+        assert_eq!((size_of::<HazardRecord>(), size_of::<ffi::Answer>(), size_of::<ffi::Run>()), (24, 72, 24));
+        assert_eq!((offset_of!(HazardRecord, start), offset_of!(HazardRecord, end)), (8, 16));
     }
 }

@@ -1,4 +1,5 @@
 //! The functions for C, as include/gpos.h declares them.
+use crate::answer::HazardRecord;
 
 pub const APPLIED: u32 = 1;
 pub const DECLINED: u32 = 2;
@@ -9,21 +10,22 @@ pub const UNSAFE_TO_CONCAT: u32 = 2;
 
 #[repr(C)]
 #[derive(Clone, Copy)]
-pub struct Hazard {
-    pub kind: u32,
-    pub start: usize,
-    pub end: usize,
-}
-
-#[repr(C)]
-#[derive(Clone, Copy)]
 pub struct Answer {
     pub status: u32,
     pub refusal: u32,
     pub attached: u32,
     pub hazard_count: u32,
     pub next: usize,
-    pub hazard: [Hazard; 2],
+    pub hazard: [HazardRecord; 2],
+}
+
+#[repr(C)]
+#[derive(Clone, Copy)]
+pub struct Run {
+    pub refusal: u32,
+    pub attached: u32,
+    pub index: usize,
+    pub count: usize,
 }
 
 extern "C" {
@@ -36,6 +38,22 @@ extern "C" {
         nesting_limit: u32,
         attachments: u32,
     ) -> u32;
+    pub fn gpos_lookup(
+        line: *mut u8,
+        line_len: usize,
+        slot_size: usize,
+        lookup_type: u32,
+        lookup_flag: u32,
+        subtables: *const u8,
+        subtables_len: usize,
+        subtable_lens: *const usize,
+        subtable_count: usize,
+        direction: u32,
+        em_size: u32,
+        units_per_em: u32,
+        list: *mut HazardRecord,
+        places: usize,
+    ) -> Run;
     pub fn gpos_to_clusters(line: *const u8, line_len: usize, target: *mut u8, target_len: usize) -> u32;
     pub fn gpos_from_clusters(line: *const u8, line_len: usize, target: *mut u8, target_len: usize) -> u32;
 }

@@ -2,14 +2,16 @@
 //!
 //! A label, or each run of it that has one font, one script and one direction, is a *line*: up to 1,024 [`Slot`]s, as
 //! bytes that you lend. Its [`Form`] says whether a slot has 24 bytes, or 28 with a *cluster*: which letter its glyph
-//! came from. A call starts a line, applies one GPOS subtable at one glyph, or finishes the line; two more move a line
-//! to the other form. Every argument may have any value: what is out of range is a [`Refusal`]. No call of the library
-//! allocates, and none panics.
+//! came from. A call starts a line, runs one GPOS lookup over it, applies one subtable at one glyph, or finishes the
+//! line; two more move a line to the other form. Every argument may have any value: what is out of range is a
+//! [`Refusal`]. No call of the library allocates, and none panics.
 //!
 //! [`guide`] goes from shaped glyphs to a drawn label, in the words of the functions for C that this package wraps. The
 //! package's `examples/label.rs` is the same label in Rust, to begin with or to copy from.
 //!
 //! # What is here, and what is not
+//!
+//! [`lookup`] runs a lookup of type 1 to 6 over a line. By the type's own call you apply one subtable at one glyph.
 //!
 //! | lookup type | call |
 //! |---|---|
@@ -33,15 +35,12 @@
 //! 1. Write the slots, in reading order in every direction ([`write_slots`]), and [`start`] the line. [`Slot`] says
 //!    what its fields hold.
 //! 2. Take the lookups of all the features that you want together, each once, in the order of the font's lookup list,
-//!    and run each over the whole line before the next. Before one of type 4 or 5 set [`Slot::SEEN`], which says which
-//!    glyphs the search for a mark's base or ligature sees.
-//! 3. A lookup goes from index 0 on. At a glyph that is in its feature and that its flag doesn't skip, try its
-//!    subtables in order: the first that applies ends the turn, and its `next` says where to go on. If none does, go on
-//!    at the next slot. For a pair or a cursive attachment you name the [`Neighbour`]: the nearest glyph that the
-//!    lookup's flag doesn't skip and that is no default ignorable, if it is in the lookup's feature; one outside the
-//!    feature ends the search. For a mark on a mark you name an earlier glyph, by a rule of its own ([`mark_mark`]).
-//!    On a refusal that [is the font's fault](Refusal::is_font_error) pass over that subtable; on any other return the
-//!    error, since the calling code has a mistake.
+//!    and run each over the whole line before the next.
+//! 3. Before a lookup set [`Slot::SEEN`], which says which glyphs it sees where it looks for another than the one at
+//!    hand: the other glyph of a pair, say, or a mark's base. The glyph at hand is tried whether it is seen or not: so
+//!    hide those that the lookup's flag skips, and those outside its feature, as [`lookup`] says, and put them back
+//!    after it. Then [`lookup`] runs it. On an error that [is the font's fault](RunError::is_font_error) pass over the
+//!    lookup, or over what is left of it; on any other return the error, since the calling code has a mistake.
 //! 4. After the last lookup set the advances of marks and of default ignorables to 0, if your shaper does so. Then
 //!    [`finish`] the line, saying whether anything was attached.
 //! 5. Draw: each glyph at pen plus offset, and then the pen moves by the advances. Go from slot 0 up, or from the last
@@ -50,39 +49,14 @@
 //! A label of two glyphs, written from right to left, and a font with one lookup, which attaches marks to bases:
 //!
 //! ```
-//! use gpos::{finish, mark_base, slots_of, start, write_slots};
-//! use gpos::{At, Direction, Form, Outcome, Refusal, Scale, Slot, NESTING_LIMIT};
+//! use gpos::{finish, lookup, places, slots_of, start, write_slots};
+//! use gpos::{Direction, Form, Hazard, HazardKind, HazardRecord, Lookup, Scale, Slot, NESTING_LIMIT};
 //!
 //! const FORM: Form = Form::Plain;
 //! const DIRECTION: Direction = Direction::RightToLeft;
+//! const SCALE: Scale = Scale { em_size: 1000, units_per_em: 2000 };
 //! const BASE: u16 = 36;
 //! const MARK: u16 = 501;
-//!
-//! /// Applies a lookup, whose flag skips some slots, from index 0 on; says whether it attached anything.
-//! fn apply(line: &mut [u8], subtables: &[&[u8]], skips: fn(usize) -> bool) -> Result<bool, Refusal> {
-//!     let scale = Scale { em_size: 1000, units_per_em: 2000 };
-//!     let (mut attachments, mut index) = (false, 0);
-//!     while index < line.len() / FORM.size() {
-//!         let at = At { direction: DIRECTION, scale, index };
-//!         index += 1;
-//!         if skips(at.index) {
-//!             continue;
-//!         }
-//!         for subtable in subtables {
-//!             match mark_base(line, FORM, subtable, at) {
-//!                 Ok(Outcome::Applied { next, attached, .. }) => {
-//!                     index = next;
-//!                     attachments |= attached;
-//!                     break;
-//!                 }
-//!                 Ok(Outcome::Declined { .. }) => {}
-//!                 Err(refusal) if refusal.is_font_error() => {} // pass over this subtable
-//!                 Err(refusal) => return Err(refusal),
-//!             }
-//!         }
-//!     }
-//!     Ok(attachments)
-//! }
 //!
 //! # fn main() -> Result<(), Box<dyn std::error::Error>> {
 //! // MarkBasePos format 1, as in the font: a mark with anchor (40, 0) and a base with anchor (600, 1400).
@@ -96,6 +70,8 @@
 //! .into_iter()
 //! .flat_map(u16::to_be_bytes)
 //! .collect();
+//! // The flag skips no glyph. Of several subtables the bytes would lie end to end, with a length for each.
+//! let marks = Lookup { lookup_type: 4, flag: 0, subtables: &subtable, lengths: &[subtable.len()] };
 //!
 //! let base = Slot { glyph: BASE, flags: Slot::SEEN, x_advance: 600, ..Slot::default() };
 //! let mark = Slot { glyph: MARK, flags: Slot::MARK, ..Slot::default() };
@@ -103,8 +79,9 @@
 //! write_slots(&mut line, FORM, &[base, mark])?;
 //!
 //! start(&mut line, FORM)?;
-//! let attachments = apply(&mut line, &[&subtable], |_| false)?; // a flag of 0 skips none
-//! finish(&mut line, FORM, DIRECTION, NESTING_LIMIT, attachments)?;
+//! let mut list = [HazardRecord::default(); places(2, 1)]; // for two slots and one subtable
+//! let run = lookup(&mut line, FORM, marks, DIRECTION, SCALE, &mut list)?;
+//! finish(&mut line, FORM, DIRECTION, NESTING_LIMIT, run.attached)?;
 //!
 //! let mut drawn = Vec::new();
 //! let (mut x, mut y) = (0, 0);
@@ -114,25 +91,41 @@
 //!     y += slot.y_advance;
 //! }
 //! assert_eq!(drawn, [(MARK, 280, 700), (BASE, 0, 0)]);
+//!
+//! // The two depend on each other: who breaks lines breaks none between them.
+//! let hazards: Vec<Hazard> = list[..run.hazards].iter().map(|record| record.hazard()).collect();
+//! assert_eq!(hazards, [Hazard { kind: HazardKind::UnsafeToBreak, range: 0..2 }]);
 //! # Ok(())
 //! # }
 //! ```
 //!
-//! The package's `examples/label.rs` has what is left out here: features, glyphs that are passed over, neighbours, seen
-//! bits, advances that are set to 0.
+//! The package's `examples/label.rs` has what is left out here: features, glyphs that are hidden from a lookup, seen
+//! bits, advances that are set to 0, and what to do with a bad font.
+//!
+//! # A lookup by single calls
+//!
+//! A lookup that [`lookup`] doesn't run, say one with more than 8 subtables, is run by the calls of its type. It goes
+//! from index 0 on. At a glyph that is in its feature and that its flag doesn't skip, try its subtables in order: the
+//! first that applies ends the turn, and its `next` says where to go on. If none does, go on at the next slot. For a
+//! pair or a cursive attachment you name the [`Neighbour`]: the nearest glyph that the lookup's flag doesn't skip and
+//! that is no default ignorable, if it is in the lookup's feature; one outside the feature ends the search. For a mark
+//! on a mark you name an earlier glyph, by a rule of its own ([`mark_mark`]). On a refusal that
+//! [is the font's fault](Refusal::is_font_error) pass over that subtable.
 //!
 //! # Subtables
 //!
 //! Pass the bytes from the subtable's format field to the *end of the GPOS table*, since OpenType gives a subtable no
 //! length, and subtables may share parts that lie behind them; but the first 65,536 where there are more, as a longer
-//! slice is refused. [`subtable`] takes them from the table.
+//! slice is refused. [`subtable`] takes them from the table. For [`lookup`] copy those of the lookup's subtables to one
+//! buffer, end to end, when the font is loaded.
 //!
 //! # Stack and time
 //!
 //! [`cursive`] takes 328 bytes of stack and 80 for each slot of an old chain, 82,248 for one through 1,024 slots;
-//! [`finish`] takes up to 4,176, and the others took up to 528 where they were measured. Every call reads all slots,
-//! and an applying one every coverage and class list of its subtable, before it does anything: a call costs as much as
-//! they are long, even where it declines.
+//! [`finish`] takes up to 4,176, and the others took up to 528 where they were measured; but [`lookup`] some 3,000, and
+//! for type 3 what [`cursive`] takes besides. Every call reads all slots, and an applying one every coverage and class
+//! list of its subtable, before it does anything: a call costs as much as they are long, even where it declines.
+//! [`lookup`] does both once for the whole line.
 //!
 //! # Linking
 //!
@@ -153,12 +146,14 @@ extern crate alloc;
 
 mod answer;
 mod ffi;
+mod run;
 mod slot;
 
 #[doc = include_str!("../../docs/GUIDE.md")]
 pub mod guide {}
 
-pub use answer::{Hazard, HazardKind, Outcome, Refusal};
+pub use answer::{Hazard, HazardKind, HazardRecord, Outcome, Refusal};
+pub use run::{lookup, places, Lookup, Run, RunError, MOST_SUBTABLES};
 #[cfg(feature = "alloc")]
 pub use slot::line_of;
 pub use slot::{put_slot, slot_at, slots_of, write_slots, Form, Slot, WrongForm};
@@ -307,8 +302,9 @@ impl Neighbour {
 /// earlier glyph hangs on the later one. It has nothing to do with the direction of the text.
 pub const LOOKUP_RIGHT_TO_LEFT: u16 = 1;
 /// A bit of a lookup's flag: it skips bases, class 1 of GDEF. No call looks at it, nor at those below. They are yours
-/// to go by, where you choose the glyphs at which the lookup is applied and where you look for a [`Neighbour`] (for
-/// [`mark_mark`] only the class and the set of marks count there).
+/// to go by, where you set [`Slot::SEEN`] and hide glyphs before a [`lookup`]; or, with single calls, where you choose
+/// the glyphs at which the lookup is applied and where you look for a [`Neighbour`] (for [`mark_mark`] only the class
+/// and the set of marks count there).
 pub const LOOKUP_IGNORE_BASES: u16 = 2;
 /// A bit of a lookup's flag, for you to go by: it skips ligatures, class 2 of GDEF.
 pub const LOOKUP_IGNORE_LIGATURES: u16 = 4;

@@ -92,11 +92,17 @@ fn take<const N: usize>(bytes: &mut &[u8]) -> Result<[u8; N], WrongForm> {
 }
 
 impl Slot {
-    /// A bit of [`Slot::flags`]: the search for a mark's base or ligature sees the glyph. Only
-    /// [`mark_base`](crate::mark_base) and [`mark_ligature`](crate::mark_ligature) look at it. Before each such lookup
-    /// clear it on marks, on default ignorables (ZWNJ, CGJ, SHY and all others that Unicode calls so, unless a
-    /// substitution made another glyph of one) and on glyphs outside the lookup's feature, which the search then passes
-    /// over; set it on all others, whatever the lookup's flag.
+    /// A bit of [`Slot::flags`]: the lookup sees the glyph. Where it looks for another glyph than the one at hand, it
+    /// takes the nearest that is seen. [`lookup`](crate::lookup) goes by it for all types but 1; of the single calls
+    /// only [`mark_base`](crate::mark_base) and [`mark_ligature`](crate::mark_ligature) look at it. Before each lookup
+    /// clear it on default ignorables (ZWNJ, CGJ, SHY and all others that Unicode calls so, unless a substitution made
+    /// another glyph of one) and on glyphs outside the lookup's feature, which the search then passes over; and also
+    ///
+    /// - for types 2 and 3 on glyphs that the lookup's flag skips;
+    /// - for types 4 and 5 on marks, whatever the flag;
+    /// - for type 6 on marks that the flag leaves out, by class or by set.
+    ///
+    /// Set it on all others.
     ///
     /// ZWJ is a default ignorable too, but in lookups of the features mark and mkmk HarfBuzz leaves it seen: a mark
     /// behind a ZWJ stays where it is.
