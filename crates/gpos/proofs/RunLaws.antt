@@ -204,7 +204,7 @@ map-append [] gs = refl
 map-append (h ∷ hs) gs = ap (λ (rs : List HazardRecord). recordOf h ∷ rs) (map-append hs gs)
 
 -- as many subtables as lengths
-length-subtables : (ns b : List ℕ) → length (subtables ns b) ≡ length ns
+pub length-subtables : (ns b : List ℕ) → length (subtables ns b) ≡ length ns
 unfolding subtables
 length-subtables [] b = refl
 length-subtables (n ∷ ns) b = ap suc (length-subtables ns _)

@@ -1,5 +1,5 @@
--- Each public call leaves one answer and one line: two results that meet its contract are equal, answer and bytes. Assumes nothing.
-use mathlib.Core.Path.{_≡_}
+-- Each public call leaves one answer and one line: two results that meet its contract are equal, answer and bytes; of a run, the list too. Assumes nothing.
+use mathlib.Core.Path.{_≡_, sym, _∙_}
 use mathlib.Core.Bool.{Bool}
 use mathlib.Core.List.{List}
 use Prim.Native.Nat.{ℕ}
@@ -7,7 +7,9 @@ use Rattle.targets.specs.declared.place.Way.{Way}
 use Rattle.answers.specs.declared.Neighbour.{Neighbour}
 use Rattle.answers.specs.Said.{said, saidDone, saidMoved}
 use Rattle.answers.proofs.OutcomeLaws.{one-outcome}
-use Rattle.answers.proofs.SaidLaws.{said-same, saidDone-same, saidMoved-same}
+use Rattle.answers.proofs.SaidLaws.{said-same, saidDone-same, saidMoved-same, saidRun-same}
+use Rattle.records.specs.declared.HazardRecord.{HazardRecord}
+use Rattle.lookup.specs.declared.state.Settings.{Settings}
 use Rattle.gpos.specs.Starting.{StartCall}
 use Rattle.gpos.specs.Finishing.{FinishCall}
 use Rattle.gpos.specs.SinglePos.{SingleCall}
@@ -15,6 +17,7 @@ use Rattle.gpos.specs.PairPos.{PairCall}
 use Rattle.gpos.specs.CursivePos.{CursiveCall}
 use Rattle.gpos.specs.MarkPos.{MarkCall}
 use Rattle.gpos.specs.Moving.{ToClustersCall, FromClustersCall}
+use Rattle.gpos.specs.Running.{LookupCall}
 
 -- at most one answer and one line meet a contract
 abbrev pub Unique : {R : Type 0} → (R → List ℕ → Type 0) → Type 0
@@ -52,3 +55,12 @@ module _ (l t : List ℕ) where
 
   pub from-clusters-unique : Unique (FromClustersCall l t)
   from-clusters-unique r₁ r₂ l₁ l₂ p q = one-outcome saidMoved saidMoved-same _ t _ _ l₁ l₂ r₁ r₂ p q
+
+-- at most one answer, one line and one list meet the contract of a run
+abbrev pub UniqueRun : {R : Type 0} → (R → List ℕ → List HazardRecord → Type 0) → Type 0
+UniqueRun {R} Meets = (r₁ r₂ : R) (l₁ l₂ : List ℕ) (list₁ list₂ : List HazardRecord) → Meets r₁ l₁ list₁ → Meets r₂ l₂ list₂ → (r₁ ≡ r₂) × (l₁ ≡ l₂) × (list₁ ≡ list₂)
+
+-- gpos::lookup
+pub lookup-unique : (g : Settings) (l b lengths : List ℕ) (list : List HazardRecord) → UniqueRun (LookupCall g l b lengths list)
+lookup-unique g l b lengths list r₁ r₂ l₁ l₂ list₁ list₂ p q =
+    (saidRun-same r₁ r₂ (p .answer ∙ sym (q .answer)), p .line ∙ sym (q .line), p .list-is ∙ sym (q .list-is))

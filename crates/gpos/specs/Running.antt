@@ -49,8 +49,9 @@ pub data Stage : Type 0 where
 abbrev pub comesTo : ℕ → ℕ → Bool → Stage
 comesTo n i a = if ltb i n then goesOn (place i 0 a) else atEnd a
 
--- After a call that said so, in a line of n slots, with c subtables: one that is applied wins, and the run goes on at its
--- next index; after a decline the next subtable is tried, and after the last the index goes up by one.
+-- After a call that said so, in a line of n slots, with c subtables: one that is applied wins, and the run goes on at
+-- its next index; after a decline the next subtable is tried, and after the last the index goes up by one; a refusal,
+-- which can only be 7, stops it. No such call says done.
 abbrev pub after : ℕ → ℕ → Place → Said → Stage
 after n c p (applied next hs a) = comesTo n next (p .attached || a)
 after n c p (declined hs) =
@@ -121,7 +122,7 @@ saidAt (atEnd a) n = ran n a
 saidAt (stoppedAt i) n = stopped i n
 saidAt (goesOn p) n = stopped (p .index) n
 
--- what is said, by the verdict before it begins
+-- what is said, by the verdict before it begins, which is a refusal or done
 abbrev pub runSaid : Said → Run → SaidRun
 runSaid (refused n) r = notRun n
 runSaid done r = saidAt (r .last) (length (r .found))
@@ -142,9 +143,14 @@ runList done r list = map recordOf (r .found) ++ drop (length (r .found)) list
 runList (applied n hs a) r list = list
 runList (declined hs) r list = list
 
--- running the lookup over the line l, with the subtables of the buffer b and a list lent for the records, answered r and
--- left the line l′ and the list list′
-pub record LookupCall (g : Settings) (l b lengths : List ℕ) (list : List HazardRecord) (r : Ran) (l′ : List ℕ) (list′ : List HazardRecord) : Type 0 where
-  pub answer : saidRun r ≡ runSaid (verdict g l b lengths (length list)) (runFor (kindOf (g .kind)) g (subtables lengths b) l)
-  pub line : l′ ≡ runLine (verdict g l b lengths (length list)) (runFor (kindOf (g .kind)) g (subtables lengths b) l) l
-  pub list-is : list′ ≡ runList (verdict g l b lengths (length list)) (runFor (kindOf (g .kind)) g (subtables lengths b) l) list
+-- the run of a lookup over the line l, with the subtables of the buffer b by their lengths
+abbrev pub runOf : Settings → (l b lengths : List ℕ) → Run
+runOf g l b lengths = runFor (kindOf (g .kind)) g (subtables lengths b) l
+
+-- running the lookup over the line l, with the subtables of the buffer b by their lengths and a list lent for the
+-- records, answered r and left the line l′ and the list list′
+pub record LookupCall (g : Settings) (l b lengths : List ℕ) (list : List HazardRecord) (r : Ran) (l′ : List ℕ)
+    (list′ : List HazardRecord) : Type 0 where
+  pub answer : saidRun r ≡ runSaid (verdict g l b lengths (length list)) (runOf g l b lengths)
+  pub line : l′ ≡ runLine (verdict g l b lengths (length list)) (runOf g l b lengths) l
+  pub list-is : list′ ≡ runList (verdict g l b lengths (length list)) (runOf g l b lengths) list

@@ -1,4 +1,4 @@
--- Each export leaves one result and one line, since its namesake does. Assumes nothing.
+-- Each export leaves one result and one line, and of a run one list, since its namesake does. Assumes nothing.
 use mathlib.Core.Path.{sym, ap, _∙_}
 use mathlib.Core.List.{List}
 use Prim.Native.Nat.{ℕ}
@@ -9,10 +9,12 @@ use Rattle.gpos.specs.Moving.{ToClustersCall, FromClustersCall}
 use Rattle.gpos.specs.PairPos.{PairCall}
 use Rattle.gpos.specs.SinglePos.{SingleCall}
 use Rattle.gpos.specs.Starting.{StartCall}
-use Rattle.gpos.proofs.Unique.{Unique}
+use Rattle.gpos.specs.Running.{LookupCall}
+use Rattle.gpos.proofs.Unique.{Unique, UniqueRun}
 use Rattle.gpos.proofs.Unique as gpos
 use Rattle.targets.specs.declared.place.Way.{Way}
-use Rattle.gpos_c.specs.Layout.{doneNumber, toC, IsLayoutOf, movedNumber, neighbour, set}
+use Rattle.records.specs.declared.HazardRecord.{HazardRecord}
+use Rattle.gpos_c.specs.Layout.{doneNumber, toC, IsLayoutOf, movedNumber, neighbour, ranToC, set, settings}
 
 -- where a call leaves one answer and one line, so does its export
 module _ {A : Type 0} {C : Type 0} (layout : A → C) (May : A → List ℕ → Type 0) (one : Unique May) where
@@ -47,3 +49,9 @@ module _ (l t : List ℕ) where
 
   pub from-clusters-unique : Unique (λ (r : ℕ) (t′ : List ℕ). IsLayoutOf movedNumber (λ m. FromClustersCall l t m t′) r)
   from-clusters-unique = laid-unique movedNumber (FromClustersCall l t) (gpos.from-clusters-unique l t)
+
+pub lookup-unique : (z kind flag direction s u : ℕ) (l b lengths : List ℕ) (list : List HazardRecord)
+    → UniqueRun (λ r (l′ : List ℕ) (list′ : List HazardRecord). IsLayoutOf ranToC (λ a. LookupCall (settings z kind flag direction s u) l b lengths list a l′ list′) r)
+lookup-unique z kind flag direction s u l b lengths list r₁ r₂ l₁ l₂ list₁ list₂ p q =
+    let same = gpos.lookup-unique (settings z kind flag direction s u) l b lengths list (p .answer) (q .answer) l₁ l₂ list₁ list₂ (p .may) (q .may) in
+    (p .numbers ∙ ap ranToC (same .0) ∙ sym (q .numbers), same .1, same .2)

@@ -206,7 +206,7 @@ module _ (g : Settings) (l b lengths : List ℕ) (places : ℕ) where
     tables-good : badTables ≡ false
     tables-good = clear-first badTables 6 [] (late-clear .1) .0
 
-    is-fit : Fit b lengths (count (g .size) l) places
+    pub is-fit : Fit b lengths (count (g .size) l) places
     is-fit = fit b lengths (count (g .size) l) places (late-clear .0)
 
     pub verdict-room : 2 * count (g .size) l * length lengths ≤ places

@@ -18,6 +18,7 @@ use Rattle.slots.specs.Slot.{known, Slot}
 use Rattle.slots.specs.Line.{bytes, shapeOf, shapeWith, slots}
 use Rattle.slots.specs.code.Shape.{Fits}
 use Rattle.slots.specs.theorems.Identity.{identities}
+use Rattle.slots.specs.declared.axis.Direction.{Direction}
 use Rattle.slots.specs.declared.shape.Shape.{Shape}
 use Rattle.slots.proofs.LineLaws.{known-size, length-bytes, length-slots}
 use Rattle.tables.specs.declared.coverage.Covered.{Covered}
@@ -88,14 +89,13 @@ pub tried-last : (c start : ℕ) (ss : List Slot) (st : State) (m : Memory) → 
 tried-last c start ss st m h = rw (le-ltb (st .subtable + 1) c h)
 
 -- ---- no call changes what slots are
-call-kept : (kind : Kind) (t : List ℕ) (st : State) (ss : List Slot)
-    → identities (callFor kind t (st .lookup .direction) (st .lookup .s) (st .lookup .u) (st .lookup .flag) (st .index) (st .near) .leaves ss) ≡ identities ss
-call-kept Single t st ss = single-kept t (st .lookup .direction) (st .lookup .s) (st .lookup .u) (st .index) ss
-call-kept Pair t st ss = pair-kept t (st .lookup .direction) (st .lookup .s) (st .lookup .u) (st .index) (st .near) ss
-call-kept Cursive t st ss = cursive-kept t (st .lookup .direction) (st .lookup .s) (st .lookup .u) (st .index) (st .near) (st .lookup .flag) ss
-call-kept MarkBase t st ss = mark-kept _ t (st .lookup .direction) (st .lookup .s) (st .lookup .u) (st .index) ss
-call-kept MarkLigature t st ss = mark-kept _ t (st .lookup .direction) (st .lookup .s) (st .lookup .u) (st .index) ss
-call-kept MarkMark t st ss = mark-kept _ t (st .lookup .direction) (st .lookup .s) (st .lookup .u) (st .index) ss
+pub call-kept : (kind : Kind) (t : List ℕ) (d : Direction) (s u flag i : ℕ) (n : Neighbour) (ss : List Slot) → identities (callFor kind t d s u flag i n .leaves ss) ≡ identities ss
+call-kept Single t d s u flag i n ss = single-kept t d s u i ss
+call-kept Pair t d s u flag i n ss = pair-kept t d s u i n ss
+call-kept Cursive t d s u flag i n ss = cursive-kept t d s u i n flag ss
+call-kept MarkBase t d s u flag i n ss = mark-kept _ t d s u i ss
+call-kept MarkLigature t d s u flag i n ss = mark-kept _ t d s u i ss
+call-kept MarkMark t d s u flag i n ss = mark-kept _ t d s u i ss
 
 -- so a search finds what it found
 finds-same : (o : Option Target) (t : List ℕ) (ss ss′ : List Slot) → identities ss ≡ identities ss′ → (n : ℕ) → finds o t ss n ≡ finds o t ss′ n
@@ -153,9 +153,13 @@ module _ {l b lengths : List ℕ} {st : State} (fine : Fine l b lengths st) wher
       subst (λ (n : Neighbour). Fair (st .index) (length ss) (callFor kind T (st .lookup .direction) (st .lookup .s) (st .lookup .u) (st .lookup .flag) (st .index) n .says ss))
       (sym (fine .near .near-is)) (fair T (st .lookup .direction) (st .lookup .s) (st .lookup .u) (st .lookup .flag) (st .index) ss in-line kind)
 
-  -- it leaves as many slots as there were, and as many bytes
+  -- it leaves the slots what they were
+  now-kept : identities (callNow T st .leaves ss) ≡ identities ss
+  now-kept = call-kept kind T (st .lookup .direction) (st .lookup .s) (st .lookup .u) (st .lookup .flag) (st .index) (st .near) ss
+
+  -- so it leaves as many slots as there were, and as many bytes
   pub left-length : length (leftNow l b lengths st) ≡ length ss
-  left-length = same-length (leftNow l b lengths st) ss (after-kept (callNow T st .says ss) ss (callNow T st .leaves ss) (call-kept kind T st ss))
+  left-length = same-length (leftNow l b lengths st) ss (after-kept (callNow T st .says ss) ss (callNow T st .leaves ss) now-kept)
 
   pub line-length : length (lineOf l b lengths st) ≡ length l
   unfolding lineOf
@@ -165,7 +169,7 @@ module _ {l b lengths : List ℕ} {st : State} (fine : Fine l b lengths st) wher
       new = callNow T st .leaves ss
 
       as-many : length new ≡ st .lookup .shape .count
-      as-many = same-length new ss (call-kept kind T st ss) ∙ length-slots (st .lookup .shape) l
+      as-many = same-length new ss now-kept ∙ length-slots (st .lookup .shape) l
 
       written : length (bytes (st .lookup .shape .size) new) ≡ length l
       written =
@@ -252,7 +256,7 @@ module _ {l b lengths : List ℕ} {st : State} (fine : Fine l b lengths st) wher
     kept : identities ss ≡ identities ss′
     kept =
         sym (ap identities (made .slots-are)
-        ∙ after-kept (callNow T st .says ss) ss (callNow T st .leaves ss) (call-kept kind T st ss))
+        ∙ after-kept (callNow T st .says ss) ss (callNow T st .leaves ss) now-kept)
 
     fits′ : Fits (st .lookup .shape) l′
     fits′ = record { wide = fine .near .fits .wide; whole = as-long ∙ fine .near .fits .whole; few = omega (arith, as-long, fine .near .fits .few) }

@@ -4,6 +4,7 @@ pub mod Next
 pub mod Demand3
 pub mod Results
 pub mod WorkedSums
+pub mod WorkedRuns
 pub mod ClusterLaws
 pub mod PlainLaws
 pub mod ValueClusters
@@ -14,3 +15,4 @@ pub mod MarkClusters
 pub mod FinishClusters
 pub mod Clusters
 pub mod Moves
+pub mod Running

@@ -107,19 +107,19 @@ abbrev record-P2 : List ℕ
 record-P2 = 255 ∷ 246 ∷ 0 ∷ 20 ∷ []
 
 -- a record of these values
-abbrev values : List ℤ → List ℕ
+abbrev pub values : List ℤ → List ℕ
 values zs = words (map (pattern 2) zs)
 
--- SinglePos format 1: a value record for glyph 7
-abbrev singleTable : ℕ → List ℕ → List ℕ
-singleTable f bs = words (1 ∷ (6 + length bs) ∷ f ∷ []) ++ bs ++ words (1 ∷ 1 ∷ 7 ∷ [])
+-- SinglePos format 1: a value record for glyph g
+abbrev pub singleTable : ℕ → ℕ → List ℕ → List ℕ
+singleTable g f bs = words (1 ∷ (6 + length bs) ∷ f ∷ []) ++ bs ++ words (1 ∷ 1 ∷ g ∷ [])
 
--- PairPos format 1: two value records for glyph 5 followed by glyph 7
-abbrev pairTable : ℕ → ℕ → List ℕ → List ℕ
-pairTable f₁ f₂ bs = words (1 ∷ 12 ∷ f₁ ∷ f₂ ∷ 1 ∷ 18 ∷ 1 ∷ 1 ∷ 5 ∷ 1 ∷ 7 ∷ []) ++ bs
+-- PairPos format 1: two value records for glyph 5 followed by glyph g
+abbrev pub pairTable : ℕ → ℕ → ℕ → List ℕ → List ℕ
+pairTable g f₁ f₂ bs = words (1 ∷ 12 ∷ f₁ ∷ f₂ ∷ 1 ∷ 18 ∷ 1 ∷ 1 ∷ 5 ∷ 1 ∷ g ∷ []) ++ bs
 
 -- CursivePos: glyph 5 has the exit (500, 20), glyph 6 the entry (30, 5)
-abbrev cursiveTable : List ℕ
+abbrev pub cursiveTable : List ℕ
 cursiveTable = words (1 ∷ 14 ∷ 2 ∷ 0 ∷ 22 ∷ 28 ∷ 0 ∷ 1 ∷ 2 ∷ 5 ∷ 6 ∷ 1 ∷ 500 ∷ 20 ∷ 1 ∷ 30 ∷ 5 ∷ [])
 
 -- MarkLigPos: glyph 9 is a mark with the anchor (0, 0); glyph 5 a ligature of three components, with the anchors (0, 0), (1, 0), (2, 0)
@@ -131,11 +131,11 @@ ligatureTable =
 -- ---- the calls, on lines of slots of z bytes
 -- single adjustment of slot 0, by s, u, the value format, its record and the direction
 abbrev single : ℕ → ℕ → ℕ → ℕ → List ℕ → ℕ → Result
-single z s u f bs direction = result (singleCall (singleTable f bs) direction s u 0) z (bytes z (wide 7 0 ∷ []))
+single z s u f bs direction = result (singleCall (singleTable 7 f bs) direction s u 0) z (bytes z (wide 7 0 ∷ []))
 
 -- pair adjustment of slots 0 and 1, direction 0, by the two value formats and the records
 abbrev pair : ℕ → ℕ → ℕ → List ℕ → Result
-pair z f₁ f₂ bs = result (pairCall (pairTable f₁ f₂ bs) 0 1000 1000 0 (Named 1)) z (bytes z (wide 5 0 ∷ wide 7 0 ∷ []))
+pair z f₁ f₂ bs = result (pairCall (pairTable 7 f₁ f₂ bs) 0 1000 1000 0 (Named 1)) z (bytes z (wide 5 0 ∷ wide 7 0 ∷ []))
 
 -- cursive attachment of slot i to slot p, direction 0, by the lookup's flag
 abbrev cursive : ℕ → List Slot → ℕ → ℕ → ℕ → Result
