@@ -67,12 +67,14 @@ static const uint8_t vowels_on_letters[] = {
     /* 40 */ ANCHOR(320, 700),
 };
 
+enum { MOST_SUBTABLES = 1 }; /* of a lookup, in this font */
+
 typedef struct {
     uint32_t type, flag, feature;
     uint32_t mark_set; /* if the flag says that there is one */
     const uint8_t *subtables; /* end to end */
     size_t subtables_len;
-    size_t lens[1]; /* of each subtable, here one: gpos_subtable_len, in a font */
+    size_t lens[MOST_SUBTABLES]; /* of each subtable; gpos_subtable_len, in a font */
     size_t subtable_count;
 } lookup;
 
@@ -127,17 +129,17 @@ static bool skips(const lookup *l, size_t i) {
 /* Whether the lookup, where it looks for a glyph beside the one at hand, sees this one: it takes
    the first that it sees. (This label has no ZWJ, which is seen in the features mark and mkmk.) */
 static bool sees(const lookup *l, size_t i) {
-    if (glyphs[i].ignorable || !in_feature(l, i)) return false;
+    if (glyphs[i].ignorable) return false;
     switch (l->type) {
     case 4:
-    case 5: return glyphs[i].gdef_class != MARK;
+    case 5: return glyphs[i].gdef_class != MARK && in_feature(l, i);
     case 6: return !leaves_out(l, i); /* letters too, whatever the flag: the search ends there */
     default: return !skips(l, i);
     }
 }
 
-/* A glyph that the lookup isn't for has, while it runs, a number that no subtable covers; but a
-   base that a mark may be put on keeps its own. */
+/* A glyph that the lookup isn't for has, while it runs, a number that is no glyph: it isn't applied
+   there, and where it is seen it ends a search. But what a mark may be put on keeps its own. */
 enum { NO_GLYPH = 0xFFFF };
 
 static bool is_for(const lookup *l, size_t i) {
@@ -154,7 +156,8 @@ static void prepare(const lookup *l) {
     }
 }
 
-static gpos_hazard hazards[GPOS_PLACES(COUNT, 1)]; /* of a lookup of one subtable; not used here */
+/* For lookups of up to so many subtables; the hazards aren't used here. */
+static gpos_hazard hazards[GPOS_PLACES(COUNT, MOST_SUBTABLES)];
 enum { PLACES = sizeof hazards / sizeof *hazards };
 
 static void apply_lookup(const lookup *l, bool *attached) {

@@ -1,9 +1,9 @@
 /* gpos.h: glyph positioning (OpenType GPOS) on a line of glyph slots.
  *
  * GUIDE.md (in the repository's docs/, installed in share/doc/gpos/) leads from shaped glyphs to a
- * drawn label, with the code of both loops; this file says what each call takes and does. Link with
- * libgpos_c. It is for x86-64 Linux, allocates nothing, keeps no state, calls nothing, needs no
- * other library, and may be used from any number of threads at once.
+ * drawn label, with the code around the calls; this file says what each call takes and does. Link
+ * with libgpos_c. It is for x86-64 Linux, allocates nothing, keeps no state, calls nothing, needs
+ * no other library, and may be used from any number of threads at once.
  *
  * A label, or each run of it that has one font, one script and one direction, is a LINE: up to
  * 1,024 glyph slots, one after the other, in memory that you lend for the call. The way of a line:
@@ -23,7 +23,7 @@
  * advances to 0; vertical origins; a scale of its own for y, or a negative one.
  *
  *
- * THE SLOT. Numbers are big-endian; signed ones are in two's complement. No address needs to be
+ * THE SLOT. Numbers are big-endian; signed ones are in two's complement. No slot needs to be
  * aligned. gpos_get_slot and gpos_put_slot, at the end of this file, read and write one.
  *
  *     byte   0-1     glyph
@@ -112,11 +112,10 @@
  *
  * WHAT YOU GUARANTEE, and nothing checks:
  *
- *   - each pointer leads to as many bytes as you say (NULL with length 0 is fine);
- *   - the line and the subtable don't overlap, nor do the line and the target of a move, nor a
- *     lookup's list and any of its other memory, and the list is aligned as C aligns it;
- *   - nobody else writes to what you lend, or reads what the call writes (the line, or the target
- *     of a move), while the call runs;
+ *   - each pointer leads to as much as you say: bytes, lengths, places (NULL with 0 is fine);
+ *   - what a call writes (line, list, target of a move) overlaps nothing else that it is lent;
+ *   - a lookup's list and lengths are aligned as C aligns them;
+ *   - nobody else writes to what you lend, or reads what the call writes, while the call runs;
  *   - there is stack: gpos_cursive takes up to 328 bytes and 80 for each slot of the line, when an
  *     old chain goes through all of it (82,248 bytes for 1,024 slots); gpos_finish some 64 for each
  *     level of the nesting limit, 4,176 at most; the other calls took up to 528 where they were
@@ -172,11 +171,11 @@ typedef enum {
     /* Where a lookup looks for another glyph beside the one at hand, it takes the nearest that is
      * seen. gpos_lookup goes by it for pairs, cursive glyphs and marks on marks; gpos_mark_base and
      * gpos_mark_ligature, in a run or not, when they search for what the mark goes on; other single
-     * calls don't look at it. Before each lookup clear it on default ignorables (ZWNJ, CGJ, SHY and
-     * all others that Unicode calls so, unless a substitution made another glyph of one) and on
-     * glyphs outside the lookup's feature, which the search then passes over; for types 2 and 3
-     * also on glyphs that the lookup's flag skips, for types 4 and 5 on marks, whatever the flag,
-     * for type 6 on marks that the flag leaves out by class or by set; and set it on all others.
+     * calls don't look at it. Before each lookup clear it on what the search is to pass over:
+     * default ignorables (ZWNJ, CGJ, SHY and all others that Unicode calls so, unless a
+     * substitution made another glyph of one); for types 2 and 3 also glyphs that the lookup's flag
+     * skips; for types 4 and 5 marks, whatever the flag, and glyphs outside the lookup's feature;
+     * for type 6 marks that the flag leaves out by class or by set; and set it on all others.
      * ZWJ is a default ignorable too, but in lookups of the features mark and mkmk HarfBuzz leaves
      * it seen: a mark behind a ZWJ stays where it is. */
     GPOS_SLOT_SEEN = 1,
@@ -318,15 +317,21 @@ uint32_t gpos_finish(uint8_t *line, size_t line_len, size_t slot_size, uint32_t 
  * Neighbours go by GPOS_SLOT_SEEN, which you set for each lookup before it runs: the second glyph
  * of a pair is the next seen slot; what a cursive glyph joins, or an earlier mark, the last seen
  * slot before. The slot at hand is tried whether it is seen or not: give a glyph that the lookup
- * isn't for (its flag skips it, or it is outside its feature) a number that no subtable covers,
- * 0xFFFF, while the lookup runs.
+ * isn't for (its flag skips it, or it is outside its feature) the number 0xFFFF, which is no glyph
+ * of a font, while the lookup runs, and its own again afterwards; but for types 4 and 5 not a glyph
+ * that is seen, since a mark may go on it.
  * The hazards of every call made, also of those that declined, go into `list` in the order in which
  * they arise; its places behind these keep what they held, and of a record that is written bytes 4
  * to 7, which are padding, may hold anything. It must have twice as many places as slots times
- * subtables (GPOS_PLACES). An empty line has none, but its subtables are checked all the same.
- * Returns GPOS_DONE; or refusal 1, 2, 3, 4, 8 or 6, the first of these in this order, and line and
- * list are untouched. Where a single call would be refused with 7, the run stops: refusal is 7, and
- * line and list are as the calls before left them. */
+ * subtables (GPOS_PLACES; 384 KiB for the longest line and 8 subtables), also if you ignore
+ * hazards. An empty line has none, but its subtables are checked all the same.
+ * A lookup of more than 8 subtables is run by single calls: two runs would not be the same.
+ * Returns GPOS_DONE; or refusal 1, 2, 3, 4, 8 or 6, the first of these in this order, and line
+ * and list are untouched. Which subtable is bad, a lookup of each alone on an empty line tells
+ * (line and list may be NULL then): leave it out. Where a single call would be refused with 7,
+ * the run stops: refusal is 7, and line and list are as the calls before left them; the slots
+ * from index on have not been tried. Go on with the next lookup, and pass attachments 1 to
+ * gpos_finish: attached is 0 here, though calls before may have attached. */
 gpos_run gpos_lookup(uint8_t *line, size_t line_len, size_t slot_size, uint32_t lookup_type,
                      uint32_t lookup_flag, const uint8_t *subtables, size_t subtables_len,
                      const size_t *subtable_lens, size_t subtable_count, uint32_t direction,
@@ -448,10 +453,11 @@ static inline const char *gpos_refusal_text(uint32_t refusal) {
     case GPOS_REFUSED_DIRECTION: return "the direction is unknown";
     case GPOS_REFUSED_RANGE: return "em size, units per em or nesting limit is out of range";
     case GPOS_REFUSED_SLOT: return "a slot's numbers are out of range, or the slot size is wrong";
-    case GPOS_REFUSED_LIST: return "not 1 to 8 subtables, wrong lengths, or too short a list";
     case GPOS_REFUSED_INDEX: return "the index or the neighbour is out of place";
-    case GPOS_REFUSED_SUBTABLE: return "the subtable is too long, cut, unknown or out of order";
+    case GPOS_REFUSED_SUBTABLE:
+        return "the subtable is too long, cut, unknown or out of order, or the lookup type unknown";
     case GPOS_REFUSED_ENDLESS: return "what the mark goes on hangs on a ring of attachments";
+    case GPOS_REFUSED_LIST: return "not 1 to 8 subtables, wrong lengths, or too short a list";
     case GPOS_REFUSED_MOVE: return "the target's length is wrong, or a cluster would be lost";
     default: return "no refusal of this library";
     }
