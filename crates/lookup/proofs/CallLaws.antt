@@ -1,16 +1,18 @@
 -- What a call that is ready knows and leaves, by its kind. Assumes nothing.
-use mathlib.Core.Path.{_≡_, refl, sym, ap, subst, _∙_}
+use mathlib.Core.Path.{_≡_, refl, sym, ap, ap₂, subst, _∙_}
 use mathlib.Core.Bool.{true}
 use mathlib.Core.List.{List, []}
 use mathlib.Core.Option.{Option, some, none, Option·none-ne-some}
-use Prim.Native.Nat.{ℕ}
+use Prim.Native.Nat.{ℕ, _<_}
 use native.Mathlib.Omega.{arith}
 use lib.ListN.{getD, length}
+use Rattle.ints.specs.Limits.{whole16}
 use Rattle.slots.specs.Slot.{Slot}
 use Rattle.slots.specs.Axis.{cross}
-use Rattle.slots.specs.Line.{slot}
+use Rattle.slots.specs.Line.{slot, slots}
 use Rattle.slots.specs.code.Shape.{HasNext}
 use Rattle.slots.specs.declared.axis.Direction.{Direction}
+use Rattle.slots.specs.declared.shape.Shape.{Shape}
 use Rattle.slots.proofs.LineLaws.{length-slots}
 use Rattle.tables.specs.declared.coverage.Covered.{Covered}
 use Rattle.tables.specs.declared.coverage.Covered.the-variants.{Index, Not}
@@ -26,11 +28,12 @@ use Rattle.targets.specs.declared.mark_pos.Target.{Target}
 use Rattle.targets.specs.declared.place.Way.the-variants.{Search}
 use Rattle.targets.specs.declared.search.Found.{Found}
 use Rattle.targets.specs.declared.search.Found.the-variants.{Slot as Slot′, Nowhere}
+use Rattle.marks.specs.Attachment.{markAttachment}
 use Rattle.marks.proofs.AttachmentLaws.{made-so}
 use Rattle.marks.proofs.PlanLaws.{plan-uncovered}
 use Rattle.lookup.specs.Kinds.{goodFor}
 use Rattle.lookup.specs.Neighbours.{neighbourFor, previous, second}
-use Rattle.lookup.specs.code.Calls.{afterSearch, bySearch, byTarget, callFor, callNow, coverNow, finds, Ready, remembered, searchNow, slotsNow, Small, targetOf, withSearched}
+use Rattle.lookup.specs.code.Calls.{afterSearch, byTarget, callFor, callNow, coverAt, coverNow, finds, foundAfter, Ready, remembered, Searches, slotsNow, Small, targetOf, untilAfter, withSearched}
 use Rattle.lookup.specs.code.Meant.{placeNumber}
 use Rattle.lookup.specs.declared.kinds.Kind.{Kind}
 use Rattle.lookup.specs.declared.kinds.Kind.the-variants.{Single, Pair, Cursive, MarkBase, MarkLigature, MarkMark}
@@ -97,30 +100,48 @@ module _ {l t : List ℕ} {st : State} (ready : Ready l t st) where
     marks-good = search-good (st .lookup .kind) target t e₀ (ready .good)
 
     -- what is known of the search is what it found
-    pub known-found : (f : Found) → placeNumber (foundOf f) ≡ getD (st .memory .found) (st .subtable) 0 → foundOf f ≡ searched target t ss (getD (st .memory .until) (st .subtable) 0)
-    known-found f e =
-        number-tells (foundOf f) (searched target t ss (getD (st .memory .until) (st .subtable) 0))
-        (e ∙ ready .right .found-is ∙ ap (λ (o : Option Target). placeNumber (finds o t ss (getD (st .memory .until) (st .subtable) 0))) e₀)
+    pub searches : Searches target (st .lookup .shape) l t (st .lookup .s) (st .lookup .u) (st .index) (getD (st .memory .until) (st .subtable) 0) (getD (st .memory .found) (st .subtable) 0)
+    searches =
+        record {
+          inside = ready .inside;
+          few = ready .few;
+          scale = ready .scale;
+          good = search-good (st .lookup .kind) target t e₀ (ready .good);
+          not-past = ready .right .not-past;
+          found-is = ready .right .found-is ∙ ap (λ (o : Option Target). placeNumber (finds o t ss (getD (st .memory .until) (st .subtable) 0))) e₀;
+        }
+
+-- code's number of what was found tells it
+pub known-found : {target : Target} {w : Shape} {l t : List ℕ} {s u i until found : ℕ} → Searches target w l t s u i until found → (f : Found) → placeNumber (foundOf f) ≡ found
+    → foundOf f ≡ searched target t (slots w l) until
+known-found {target} {w} {l} {t} {until = until} ok f e = number-tells (foundOf f) (searched target t (slots w l) until) (e ∙ ok .found-is)
+
+-- and is one of 16 bits
+pub number-fits : (f : Found) (i : ℕ) → FoundBefore i f → i < whole16 → {n : ℕ} → n ≡ placeNumber (foundOf f) → n < whole16
+number-fits (Slot′ j) i h few e = omega (arith, h, few, e)
+number-fits Nowhere i h few e = omega (arith, e)
 
 -- ---- what a call that searches leaves
 -- the mark's coverage index, as code read it
-pub cover-is : (t : List ℕ) (ss : List Slot) (st : State) (g : ℕ) → g ≡ slot ss (st .index) .glyph → (c : Covered) → c ≡ markIndex t g → coverNow t ss st ≡ c
-cover-is t ss st g is-g c is-c = sym (is-c ∙ ap (markIndex t) is-g)
+pub cover-is : (t : List ℕ) (ss : List Slot) (i : ℕ) (g : ℕ) → g ≡ slot ss i .glyph → (c : Covered) → c ≡ markIndex t g → coverAt t ss i ≡ c
+cover-is t ss i g is-g c is-c = sym (is-c ∙ ap (markIndex t) is-g)
 
-module _ (target : Target) (t : List ℕ) (ss : List Slot) (st : State) where
-  -- a mark that isn't covered declines, and nothing was searched
-  module _ (e : coverNow t ss st ≡ Not) where
-    pub uncovered-made : MadeOn (searchNow target t st) ss (declined []) ss
-    uncovered-made =
-        made-so (Search target) (st .lookup .s) (st .lookup .u) (st .lookup .direction) (st .index) t ss
-        (plan-uncovered (Search target) (cross (st .lookup .direction)) t ss (st .index) (slot ss (st .index) .glyph) refl (coverNow t ss st) refl e)
-        (record { answer = refl; slots-are = refl })
+-- a mark that isn't covered declines
+pub uncovered-made : (target : Target) (t : List ℕ) (d : Direction) (s u i : ℕ) (ss : List Slot) → coverAt t ss i ≡ Not → MadeOn (markAttachment (Search target) t d s u i) ss (declined []) ss
+uncovered-made target t d s u i ss e =
+    made-so (Search target) s u d i t ss (plan-uncovered (Search target) (cross d) t ss i (slot ss i .glyph) refl (coverAt t ss i) refl e)
+    (record { answer = refl; slots-are = refl })
 
-    pub uncovered-memory : st .memory ≡ afterSearch target t ss st
-    uncovered-memory = ap (λ (c : Covered). bySearch c target t ss st) (sym e)
+-- how far the search has come, by whether the mark is covered
+pub until-is : {c : Covered} {c′ : Covered} → c ≡ c′ → (until i : ℕ) → untilAfter c′ until i ≡ untilAfter c until i
+until-is e until i = ap (λ (x : Covered). untilAfter x until i) (sym e)
 
-  -- a mark that is covered made a search
-  pub covered-memory : (m : ℕ) → coverNow t ss st ≡ Index m → (place : Found) → foundOf place ≡ searched target t ss (st .index) → {n : ℕ} → n ≡ placeNumber (foundOf place) → {after : Memory}
-      → after ≡ withSearched (st .memory) (st .subtable) (st .index) n → after ≡ afterSearch target t ss st
-  covered-memory m e place is-place is-n is-after =
-      is-after ∙ ap (withSearched (st .memory) (st .subtable) (st .index)) (is-n ∙ ap placeNumber is-place) ∙ ap (λ (c : Covered). bySearch c target t ss st) (sym e)
+pub found-as : {c : Covered} {c′ : Covered} → c ≡ c′ → (found : ℕ) (o : Option ℕ) → foundAfter c′ found o ≡ foundAfter c found o
+found-as e found o = ap (λ (x : Covered). foundAfter x found o) (sym e)
+
+-- what code stored is what the call remembers
+pub memory-is : (target : Target) (t : List ℕ) (ss : List Slot) (st : State) {until found : ℕ} {m : Memory}
+    → until ≡ untilAfter (coverNow t ss st) (getD (st .memory .until) (st .subtable) 0) (st .index)
+    → found ≡ foundAfter (coverNow t ss st) (getD (st .memory .found) (st .subtable) 0) (searched target t ss (st .index))
+    → m ≡ withSearched (st .memory) (st .subtable) until found → m ≡ afterSearch target t ss st
+memory-is target t ss st e f is = is ∙ ap₂ (withSearched (st .memory) (st .subtable)) e f

@@ -5,13 +5,14 @@ use mathlib.Core.List.{List}
 use mathlib.Core.Option.{Option, some, none}
 use Prim.Native.Nat.{ℕ, _+_, _-_, _*_, _/_, _≤_, _<_}
 use native.Mathlib.Decide.{decLt}
-use native.Mathlib.Nat.{suc-ne-zero}
+use native.Mathlib.Nat.{mul-le-mul-right, suc-ne-zero}
 use native.Mathlib.Omega.{arith}
-use borrow.Author.Tests.{eqb-false, eqb-true, le-ltb, lt-ltb, ltb-true}
+use borrow.Author.Tests.{eqb-false, eqb-true, le-ltb, lt-ltb, ltb-false, ltb-true}
 use lib.Dec.{eqb, ltb}
 use lib.ListN.{drop, getD, length, length-set, set, take}
 use lib.Seq.{getD-set-other, getD-set-same}
 use Rattle.ints.specs.BigEndian.{AllBytes}
+use Rattle.ints.specs.Limits.{whole16}
 use Rattle.ints.specs.Choice.{if_then_else_}
 use Rattle.slots.specs.Checks.{badLength}
 use Rattle.slots.specs.Slot.{known, Slot}
@@ -20,7 +21,7 @@ use Rattle.slots.specs.code.Shape.{Fits}
 use Rattle.slots.specs.theorems.Identity.{identities}
 use Rattle.slots.specs.declared.axis.Direction.{Direction}
 use Rattle.slots.specs.declared.shape.Shape.{Shape}
-use Rattle.slots.proofs.LineLaws.{known-size, length-bytes, length-slots}
+use Rattle.slots.proofs.LineLaws.{known-size, length-bytes, length-slots, line-short}
 use Rattle.tables.specs.declared.coverage.Covered.{Covered}
 use Rattle.tables.specs.declared.coverage.Covered.the-variants.{Index, Not}
 use Rattle.answers.specs.Outcome.{lineAfter, Made}
@@ -38,7 +39,7 @@ use Rattle.targets.specs.declared.mark_pos.Target.{Target}
 use Rattle.lookup.specs.Kinds.{goodFor}
 use Rattle.lookup.specs.Neighbours.{neighbourFor}
 use Rattle.lookup.specs.Subtables.{mostSubtables, subtable, total}
-use Rattle.lookup.specs.code.Calls.{afterSearch, bySearch, byTarget, callFor, callNow, coverNow, finds, Ready, remembered, Right, RightAt, slotsNow, targetOf}
+use Rattle.lookup.specs.code.Calls.{afterSearch, bySearch, byTarget, callFor, callNow, coverNow, finds, foundAfter, Ready, remembered, Right, RightAt, slotsNow, targetOf, untilAfter}
 use Rattle.lookup.specs.code.Meant.{placeNumber}
 use Rattle.lookup.specs.code.Run.{arrived, ended, Fine, goes, Good, leftNow, lineOf, Near, Next, nextState, saidNow, stopped, subtableNow, tried, turnOf, Whole}
 use Rattle.lookup.specs.declared.kinds.Kind.{Kind}
@@ -135,10 +136,24 @@ module _ {l b lengths : List ℕ} {st : State} (fine : Fine l b lengths st) wher
       ap (λ (n : ℕ). take n (drop (st .start) b)) only ∙ ap (λ (n : ℕ). take len (drop n b)) (fine .good .start-is)
       ∙ subtable-is lengths b (st .subtable) (fine .good .subtable-in)
 
+  -- the numbers of a line's slots fit 16 bits
+  few-slots : st .index < whole16
+  few-slots = go (ltb (st .index) whole16) refl
+    where
+      z : ℕ
+      z = st .lookup .shape .size
+
+      go : (t : Bool) → ltb (st .index) whole16 ≡ t → st .index < whole16
+      go true e = ltb-true (st .index) whole16 e
+      go false e =
+          let many : whole16 ≤ st .lookup .shape .count = omega (arith, ltb-false (st .index) whole16 e, fine .near .index-in) in
+          absurd (omega (arith, mul-le-mul-right z many, fine .near .fits .whole, fine .near .fits .wide, line-short z l (fine .whole .line-good)))
+
   pub ready : Ready l part st
   ready =
       record {
         inside = record { fits = fine .near .fits; below = fine .near .index-in };
+        few = few-slots;
         scale = fine .scale;
         good = ap (goodFor kind) part-is ∙ one-good (goodFor kind) lengths b (st .subtable) (fine .good .subtable-in) (fine .good .all-good);
         near-is = fine .near .near-is;
@@ -186,33 +201,38 @@ module _ {l b lengths : List ℕ} {st : State} (fine : Fine l b lengths st) wher
   abbrev AllRight : Memory → Type 0
   AllRight m = (k : ℕ) → k < length lengths → RightAt m k kind (subtable lengths b k) ss (st .index)
 
-  searched-right : (target : Target) → targetOf kind ≡ some target → (c : Covered) → AllRight (bySearch c target T ss st)
-  searched-right target e Not = fine .right
-  searched-right target e (Index m) = λ k h. here k h (eqb k (st .subtable)) refl
-    where
-      until : List ℕ
-      until = st .memory .until
+  module _ (target : Target) (e : targetOf kind ≡ some target) where
+    abbrev untils : List ℕ
+    untils = st .memory .until
 
-      found : List ℕ
-      found = st .memory .found
+    abbrev founds : List ℕ
+    founds = st .memory .found
 
-      x : ℕ
-      x = placeNumber (searched target T ss (st .index))
+    abbrev untilNow : Covered → ℕ
+    untilNow c = untilAfter c (getD untils (st .subtable) 0) (st .index)
 
-      in-memory : st .subtable < mostSubtables
-      in-memory = omega (arith, fine .good .subtable-in, fine .good .few)
+    abbrev foundNow : Covered → ℕ
+    foundNow c = foundAfter c (getD founds (st .subtable) 0) (searched target T ss (st .index))
 
-      new : Right kind T ss (st .index) (st .index) x
-      new = record { not-past = omega arith; found-is = ap (λ (o : Option Target). placeNumber (finds o T ss (st .index))) (sym e) }
+    -- of its own subtable, whether it made a search or not
+    own-right : (c : Covered) → Right kind T ss (st .index) (untilNow c) (foundNow c)
+    own-right (Index m) = record { not-past = omega arith; found-is = ap (λ (o : Option Target). placeNumber (finds o T ss (st .index))) (sym e) }
+    own-right Not = fine .right (st .subtable) (fine .good .subtable-in)
 
-      here : (k : ℕ) → k < length lengths → (z : Bool) → eqb k (st .subtable) ≡ z
-          → Right kind (subtable lengths b k) ss (st .index) (getD (set until (st .subtable) (st .index)) k 0) (getD (set found (st .subtable) x) k 0)
-      here k h true same =
-          let is : k ≡ st .subtable = eqb-true k (st .subtable) same in
-          rw (is, getD-set-same until (st .subtable) (st .index) 0 (omega (arith, in-memory, fine .good .untils)), getD-set-same found (st .subtable) x 0 (omega (arith, in-memory, fine .good .founds))) new
-      here k h false other =
-          let not : k ≡ st .subtable → ⊥ = eqb-false k (st .subtable) other in
-          rw (getD-set-other until (st .subtable) k (st .index) 0 not, getD-set-other found (st .subtable) k x 0 not) (fine .right k h)
+    searched-right : (c : Covered) → AllRight (bySearch c target T ss st)
+    searched-right c = λ k h. here k h (eqb k (st .subtable)) refl
+      where
+        in-memory : st .subtable < mostSubtables
+        in-memory = omega (arith, fine .good .subtable-in, fine .good .few)
+
+        here : (k : ℕ) → k < length lengths → (z : Bool) → eqb k (st .subtable) ≡ z
+            → Right kind (subtable lengths b k) ss (st .index) (getD (set untils (st .subtable) (untilNow c)) k 0) (getD (set founds (st .subtable) (foundNow c)) k 0)
+        here k h true same =
+            let is : k ≡ st .subtable = eqb-true k (st .subtable) same in
+            rw (is, getD-set-same untils (st .subtable) (untilNow c) 0 (omega (arith, in-memory, fine .good .untils)), getD-set-same founds (st .subtable) (foundNow c) 0 (omega (arith, in-memory, fine .good .founds))) (own-right c)
+        here k h false other =
+            let not : k ≡ st .subtable → ⊥ = eqb-false k (st .subtable) other in
+            rw (getD-set-other untils (st .subtable) k (untilNow c) 0 not, getD-set-other founds (st .subtable) k (foundNow c) 0 not) (fine .right k h)
 
   target-right : (o : Option Target) → targetOf kind ≡ o → AllRight (byTarget o T ss st)
   target-right (some target) e = searched-right target e (coverNow T ss st)
@@ -223,12 +243,8 @@ module _ {l b lengths : List ℕ} {st : State} (fine : Fine l b lengths st) wher
 
   -- its lists are as long as they were
   memory-lengths : (o : Option Target) → (length (byTarget o T ss st .until) ≡ mostSubtables) × (length (byTarget o T ss st .found) ≡ mostSubtables)
-  memory-lengths (some target) = by-cover (coverNow T ss st)
-    where
-      by-cover : (c : Covered) → (length (bySearch c target T ss st .until) ≡ mostSubtables) × (length (bySearch c target T ss st .found) ≡ mostSubtables)
-      by-cover (Index m) =
-          (length-set (st .memory .until) (st .subtable) _ ∙ fine .good .untils, length-set (st .memory .found) (st .subtable) _ ∙ fine .good .founds)
-      by-cover Not = (fine .good .untils, fine .good .founds)
+  memory-lengths (some target) =
+      (length-set (st .memory .until) (st .subtable) _ ∙ fine .good .untils, length-set (st .memory .found) (st .subtable) _ ∙ fine .good .founds)
   memory-lengths none = (fine .good .untils, fine .good .founds)
 
   -- ---- what it leaves

@@ -29,10 +29,11 @@ pub struct Lookup {
 }
 
 // How far the search for what a mark goes on has come with each subtable: up to slot `until`. `found` is the number of the
-// slot that it finds before that, and one; or 0, if it finds none.
+// slot that it finds before that, and one; or 0, if it finds none. 16 bits hold the number of any slot: a run copies its
+// state at each call, and this is the most of it.
 pub struct Memory {
-    pub until: [usize; 8],
-    pub found: [usize; 8],
+    pub until: [u16; 8],
+    pub found: [u16; 8],
 }
 
 // How a run ended.

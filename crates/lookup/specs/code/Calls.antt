@@ -5,11 +5,13 @@ use mathlib.Core.Option.{Option, some, none}
 use mathlib.Core.Path.{_≡_}
 use Prim.Native.Nat.{ℕ, _≤_, _<_}
 use lib.ListN.{getD, set}
+use Rattle.ints.specs.Limits.{whole16}
 use Rattle.ints.specs.code.Scale.{InScale}
 use Rattle.slots.specs.Slot.{Slot}
 use Rattle.slots.specs.Line.{slot, slots}
 use Rattle.slots.specs.code.Shape.{HasNext, Inside}
 use Rattle.slots.specs.declared.axis.Direction.{Direction}
+use Rattle.slots.specs.declared.shape.Shape.{Shape}
 use Rattle.tables.specs.declared.coverage.Covered.{Covered}
 use Rattle.tables.specs.declared.coverage.Covered.the-variants.{Index, Not}
 use Rattle.answers.specs.Outcome.{Call}
@@ -17,7 +19,7 @@ use Rattle.answers.specs.declared.Neighbour.{Neighbour}
 use Rattle.single.specs.SinglePos.{singleAdjustment}
 use Rattle.pair.specs.Adjustment.{pairAdjustment}
 use Rattle.cursive.specs.Attachment.{cursiveAttachment}
-use Rattle.targets.specs.MarkPos.{markIndex}
+use Rattle.targets.specs.MarkPos.{markIndex, marksGood}
 use Rattle.targets.specs.Place.{searched}
 use Rattle.targets.specs.declared.mark_pos.Target.{Target}
 use Rattle.targets.specs.declared.mark_pos.Target.the-variants.{Base, Ligature}
@@ -70,8 +72,11 @@ searchNow target t st =
     markAttachment (Search target) t (st .lookup .direction) (st .lookup .s) (st .lookup .u) (st .index)
 
 -- the mark's coverage index
+abbrev pub coverAt : List ℕ → List Slot → ℕ → Covered
+coverAt t ss i = markIndex t (slot ss i .glyph)
+
 abbrev pub coverNow : List ℕ → List Slot → State → Covered
-coverNow t ss st = markIndex t (slot ss (st .index) .glyph)
+coverNow t ss st = coverAt t ss (st .index)
 
 -- what a search with the subtable t finds before slot n, if the kind makes one
 abbrev pub finds : Option Target → List ℕ → List Slot → ℕ → Option ℕ
@@ -96,11 +101,21 @@ abbrev pub Small : Found → Type 0
 Small (Slot′ i) = HasNext i
 Small Nowhere = Unit {0}
 
--- how far the searches have come after the call: a covered mark makes a search
+-- a covered mark makes a search: how far the search with its subtable has come then
+abbrev pub untilAfter : Covered → (until i : ℕ) → ℕ
+untilAfter (Index m) until i = i
+untilAfter Not until i = until
+
+-- and what it found
+abbrev pub foundAfter : Covered → (found : ℕ) → Option ℕ → ℕ
+foundAfter (Index m) found place = placeNumber place
+foundAfter Not found place = found
+
+-- how far the searches have come after the call
 abbrev pub bySearch : Covered → Target → List ℕ → List Slot → State → Memory
-bySearch (Index m) target t ss st =
-    withSearched (st .memory) (st .subtable) (st .index) (placeNumber (searched target t ss (st .index)))
-bySearch Not target t ss st = st .memory
+bySearch c target t ss st =
+    withSearched (st .memory) (st .subtable) (untilAfter c (getD (st .memory .until) (st .subtable) 0) (st .index))
+    (foundAfter c (getD (st .memory .found) (st .subtable) 0) (searched target t ss (st .index)))
 
 abbrev pub afterSearch : Target → List ℕ → List Slot → State → Memory
 afterSearch target t ss st = bySearch (coverNow t ss st) target t ss st
@@ -116,8 +131,18 @@ remembered t ss st = byTarget (targetOf (st .lookup .kind)) t ss st
 -- what a call needs of the line and of its subtable t
 pub record Ready (l t : List ℕ) (st : State) : Type 0 where
   pub inside : Inside (st .lookup .shape) l (st .index)
+  pub few : st .index < whole16
   pub scale : InScale (st .lookup .s) (st .lookup .u)
   pub good : goodFor (st .lookup .kind) t ≡ true
   pub near-is : st .near ≡ neighbourFor (st .lookup .kind) (slotsNow l st) (st .index)
   pub in-memory : st .subtable < mostSubtables
   pub right : RightAt (st .memory) (st .subtable) (st .lookup .kind) t (slotsNow l st) (st .index)
+
+-- what a call that searches needs, of a search that came to slot `until` and found `found`
+pub record Searches (target : Target) (w : Shape) (l t : List ℕ) (s u i until found : ℕ) : Type 0 where
+  pub inside : Inside w l i
+  pub few : i < whole16
+  pub scale : InScale s u
+  pub good : marksGood t ≡ true
+  pub not-past : until ≤ i
+  pub found-is : found ≡ placeNumber (searched target t (slots w l) until)

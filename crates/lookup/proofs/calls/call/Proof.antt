@@ -90,8 +90,8 @@ returns-4 c =
 enum-told-5 : tie.Need-enum-told-5
 enum-told-5 c = search needs
 
-search-call-requires : tie.Need-search-call-requires
-search-call-requires c κs = (c .before .before .before .before .before .before .before .before .pre, ap targetOf (c .before .enum-told5 .given .1))
+base-call-requires : tie.Need-base-call-requires
+base-call-requires c κs = (c .before .before .before .before .before .before .before .before .pre, ap targetOf (c .before .enum-told5 .given .1))
 
 same-length-5 : tie.Need-same-length-5
 same-length-5 c = search needs
@@ -99,7 +99,7 @@ same-length-5 c = search needs
 returns-5 : tie.Need-returns-5
 returns-5 c =
     let k = c .before .before in
-    let m = k .search-call .ensures in
+    let m = k .base-call .ensures in
     let ready = k .before .before .before .before .before .before .before .before .before .pre in
     let is = k .before .before .enum-told5 .given .1 in
     (made-as ready MarkBase is (m .0), memory-as ready MarkBase is (m .1))
@@ -107,8 +107,8 @@ returns-5 c =
 enum-told-6 : tie.Need-enum-told-6
 enum-told-6 c = search needs
 
-search-call-requires-2 : tie.Need-search-call-requires-2
-search-call-requires-2 c κs = (c .before .before .before .before .before .before .before .before .pre, ap targetOf (c .before .enum-told6 .given .1))
+ligature-call-requires : tie.Need-ligature-call-requires
+ligature-call-requires c κs = (c .before .before .before .before .before .before .before .before .pre, ap targetOf (c .before .enum-told6 .given .1))
 
 same-length-6 : tie.Need-same-length-6
 same-length-6 c = search needs
@@ -116,7 +116,7 @@ same-length-6 c = search needs
 returns-6 : tie.Need-returns-6
 returns-6 c =
     let k = c .before .before in
-    let m = k .search-call2 .ensures in
+    let m = k .ligature-call .ensures in
     let ready = k .before .before .before .before .before .before .before .before .before .pre in
     let is = k .before .before .enum-told6 .given .1 in
     (made-as ready MarkLigature is (m .0), memory-as ready MarkLigature is (m .1))
@@ -142,10 +142,10 @@ call-spec =
     same-length-4
     returns-4
     enum-told-5
-    search-call-requires
+    base-call-requires
     same-length-5
     returns-5
     enum-told-6
-    search-call-requires-2
+    ligature-call-requires
     same-length-6
     returns-6)
