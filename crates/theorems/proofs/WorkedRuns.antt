@@ -146,11 +146,11 @@ pub record Worked : Type 0 where
   -- a pair jumps over a slot that isn't seen, and the run goes on at the second: slot 1, which is covered too, isn't tried
   pub jumps : lookedUp 2 (kerns 7 (minus 50) ∷ []) (base ∷ glyph 5 0 (pos 600) ∷ glyph 7 1 (pos 600) ∷ []) 6
       ≡ left (ran 1 false) (glyph 5 1 (pos 550) ∷ glyph 5 0 (pos 600) ∷ glyph 7 1 (pos 600) ∷ []) (unsafeToBreak 0 3 ∷ []) 5
-  -- cursive: the previous glyph is the nearest that is seen, two slots back; that it attached is said at the end
-  pub joins : lookedUp 3 (cursiveTable ∷ []) (base ∷ glyph 4 0 (pos 0) ∷ glyph 6 1 (pos 600) ∷ []) 6
+  -- cursive: the previous glyph is the nearest that is seen, two slots back; that it attached is said at the end, though the last slot declines
+  pub joins : lookedUp 3 (cursiveTable ∷ []) (base ∷ glyph 4 0 (pos 0) ∷ glyph 6 1 (pos 600) ∷ glyph 4 1 (pos 0) ∷ []) 8
       ≡ left (ran 1 true)
-      (glyph 5 1 (pos 500) ∷ glyph 4 0 (pos 0) ∷ attached 2 (minus 2) (withPlace (pos 570) (pos 0) (minus 30) (pos 15) (glyph 6 1 (pos 0))) ∷ [])
-      (unsafeToBreak 0 3 ∷ []) 5
+      (glyph 5 1 (pos 500) ∷ glyph 4 0 (pos 0) ∷ attached 2 (minus 2) (withPlace (pos 570) (pos 0) (minus 30) (pos 15) (glyph 6 1 (pos 0))) ∷ glyph 4 1 (pos 0) ∷ [])
+      (unsafeToBreak 0 3 ∷ []) 7
   -- Stopped with 7 at slot 5, whose base hangs on itself through another: the mark in slot 2 stays attached, and the hazards of slots 0 and 2 stay in the list; slot 6 isn't reached.
   pub stops : lookedUp 4 (marks ∷ []) (mark ∷ base ∷ mark ∷ hung (pos 1) ∷ hung (minus 1) ∷ mark ∷ mark ∷ []) 14
       ≡ left (stopped 5 2) (mark ∷ base ∷ mark-on ∷ hung (pos 1) ∷ hung (minus 1) ∷ mark ∷ mark ∷ []) (unsafeToConcat 0 1 ∷ unsafeToBreak 1 3 ∷ []) 12
