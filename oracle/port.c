@@ -68,16 +68,22 @@ typedef struct {
     size_t room, len;
 } lent;
 
-static uint8_t *lend(lent *m, const uint8_t *from, size_t len) {
+/* Room for so many bytes, aligned for any type. */
+static uint8_t *room_for(lent *m, size_t len) {
     if (m->room < len + 2 * GUARD) {
         m->room = 2 * len + 2 * GUARD;
         m->all = realloc(m->all, m->room);
     }
     m->len = len;
     memset(m->all, 0xA5, GUARD);
-    memcpy(m->all + GUARD, from, len);
     memset(m->all + GUARD + len, 0x5A, GUARD);
-    return len == 0 ? NULL : m->all + GUARD;
+    return m->all + GUARD;
+}
+
+static uint8_t *lend(lent *m, const uint8_t *from, size_t len) {
+    uint8_t *at = room_for(m, len);
+    memcpy(at, from, len);
+    return len == 0 ? NULL : at;
 }
 
 /* Was a guard changed? */
@@ -124,8 +130,71 @@ static said serve(const uint8_t *q, lent *line, lent *subtable) {
     return a;
 }
 
+/* ---- Runs of a lookup */
+
+enum { RUN = 10, RUN_HEADER = 56 };
+
+/* What is lent for a run. */
+typedef struct {
+    lent line, subtables, lens, list;
+} lent_run;
+
+/* The lengths, as an array of the library's numbers. */
+static size_t *lend_lens(lent *m, const uint8_t *from, size_t count) {
+    size_t *at = (size_t *)(void *)room_for(m, count * sizeof(size_t));
+    for (size_t k = 0; k < count; k++) at[k] = get(from + 8 * k, 8);
+    return count == 0 ? NULL : at;
+}
+
+static int lens_changed(const lent *m, const uint8_t *from) {
+    const size_t *at = (const size_t *)(const void *)(m->all + GUARD);
+    for (size_t k = 0; k < m->len / sizeof(size_t); k++)
+        if (at[k] != get(from + 8 * k, 8)) return 1;
+    return 0;
+}
+
+/* A list that holds something everywhere, so that a place that is written shows. */
+static gpos_hazard *lend_list(lent *m, size_t places) {
+    uint8_t *at = room_for(m, places * sizeof(gpos_hazard));
+    for (size_t k = 0; k < m->len; k++) at[k] = (uint8_t)(145 + 37 * k);
+    return places == 0 ? NULL : (gpos_hazard *)(void *)at;
+}
+
+static void put_lent(const lent *m) { fwrite(m->all + GUARD, 1, m->len, stdout); }
+
+static void answer_run(const gpos_run *g, int harm, const lent_run *m) {
+    put(5 * 8 + m->line.len + m->list.len, 4);
+    put(g->refusal, 8);
+    put(g->attached, 8);
+    put(g->index, 8);
+    put(g->count, 8);
+    put((uint64_t)harm, 8);
+    put_lent(&m->line);
+    put_lent(&m->list);
+}
+
+static void serve_run(const uint8_t *q, lent_run *m) {
+    size_t line_len = get(q + 24, 4), subtables_len = get(q + 28, 4);
+    size_t count = get(q + 40, 8), places = get(q + 48, 8);
+    const uint8_t *lens_at = q + RUN_HEADER, *line_at = lens_at + 8 * count;
+    const uint8_t *subtables_at = line_at + line_len;
+    uint8_t *line = lend(&m->line, line_at, line_len);
+    const uint8_t *subtables = lend(&m->subtables, subtables_at, subtables_len);
+    const size_t *lens = lend_lens(&m->lens, lens_at, count);
+    gpos_hazard *list = lend_list(&m->list, places);
+    uint32_t direction = (uint32_t)get(q + 4, 4), s = (uint32_t)get(q + 8, 4);
+    uint32_t u = (uint32_t)get(q + 12, 4), type = (uint32_t)get(q + 16, 4);
+    uint32_t flag = (uint32_t)get(q + 20, 4);
+    gpos_run g = gpos_lookup(line, line_len, get(q + 32, 8), type, flag, subtables, subtables_len,
+                             lens, count, direction, s, u, list, places);
+    int harm = harmed(&m->line) || harmed(&m->subtables) || harmed(&m->lens) || harmed(&m->list);
+    int written = changed(&m->subtables, subtables_at) || lens_changed(&m->lens, lens_at);
+    answer_run(&g, harm || written, m);
+}
+
 int main(void) {
     lent line = {0}, subtable = {0};
+    lent_run run = {0};
     uint8_t *request = NULL, size[4];
     size_t room = 0;
     while (fread(size, 1, 4, stdin) == 4) {
@@ -139,6 +208,10 @@ int main(void) {
         if (request[0] == KINDS) { /* which calls are there? */
             put(ROWS, 4);
             for (int k = 0; k < ROWS; k++) put(rows[k] != NULL, 1);
+            continue;
+        }
+        if (request[0] == RUN) {
+            serve_run(request, &run);
             continue;
         }
         said a = serve(request, &line, &subtable);

@@ -70,6 +70,17 @@ static void moving(void) {
     status = refused == 0 ? GPOS_STATUS_APPLIED : GPOS_STATUS_REFUSED;
 }
 
+/* A run of a lookup of one subtable. */
+static gpos_hazard list[2 * SLOTS];
+static volatile uint32_t lookup_type;
+static const uint8_t *volatile table;
+static volatile size_t table_len;
+static void running(void) {
+    size_t len = table_len;
+    gpos_run r = gpos_lookup(line, size * slots, size, lookup_type, 0, table, len, &len, 1, 0, 1000, 1000, list, 2 * SLOTS);
+    status = r.refusal == GPOS_DONE ? GPOS_STATUS_APPLIED : GPOS_STATUS_REFUSED;
+}
+
 static size_t used(void (*call)(void)) {
     memset(room, PAINT, ROOM);
     __asm__ volatile("movq %%rsp, %%rbx\n\tmovq %0, %%rsp\n\tcall *%1\n\tmovq %%rbx, %%rsp"
@@ -96,6 +107,37 @@ static size_t others(void) {
     }
     size_t bytes = used(starting);
     return most < bytes ? bytes : most;
+}
+
+/* The most that a run takes but of cursive glyphs; 0 if one is refused. */
+static size_t runs(void) {
+    static const struct {
+        uint32_t type;
+        const uint8_t *bytes;
+        size_t len;
+    } lookups[] = {{1, single, sizeof single}, {2, pairs, sizeof pairs}, {2, classes, sizeof classes}, {4, bases, sizeof bases}, {5, ligatures, sizeof ligatures}, {6, bases, sizeof bases}};
+    size_t most = 0;
+    for (size_t k = 0; k < sizeof lookups / sizeof *lookups; k++) {
+        slots = SLOTS;
+        chain_up();
+        for (size_t i = 0; i < SLOTS; i++) line[size * i + 4] = 3, line[size * i + 7] = 0; /* seen and a mark, and not attached */
+        lookup_type = lookups[k].type, table = lookups[k].bytes, table_len = lookups[k].len;
+        size_t bytes = used(running);
+        if (status != GPOS_STATUS_APPLIED) return 0;
+        if (most < bytes) most = bytes;
+    }
+    return most;
+}
+
+/* The same loop as of a single call, in a run: no slot between the first, which is seen, and the last is covered. */
+static size_t run_reversing(size_t n) {
+    slots = n;
+    loop_down();
+    for (size_t k = 1; k + 1 < n; k++) line[size * k + 1] = 0;
+    line[4] = 1;
+    lookup_type = 3, table = joins, table_len = sizeof joins;
+    size_t bytes = used(running);
+    return reversed() ? bytes : 0;
 }
 
 static size_t reversing(size_t n) {
@@ -126,11 +168,13 @@ static int report(size_t bytes) {
     size = bytes;
     size_t one = reversing(SLOTS), few = reversing(24), deep = finishing_at(LIMIT), flat = finishing_at(0), rest = others();
     size_t level = deep - finishing_at(LIMIT - 1);
-    if (one == 0 || few == 0 || rest == 0) return 0;
+    size_t run = run_reversing(SLOTS), short_run = run_reversing(24), others_run = runs();
+    if (one == 0 || few == 0 || rest == 0 || run == 0 || short_run == 0 || others_run == 0) return 0;
     printf("slots of %zu bytes\n", bytes);
     printf("gpos_cursive: %zu bytes of stack to reverse a chain through 24 slots, %zu through 1,024: %zu a slot\n", few, one, (one - few) / (SLOTS - 24));
     printf("gpos_finish: %zu bytes with nesting limit 0, %zu with 64: %zu a level\n", flat, deep, level);
     printf("the other calls: at most %zu bytes\n", rest);
+    printf("gpos_lookup: at most %zu bytes, but for cursive glyphs; to reverse a chain through 24 slots %zu, through 1,024 %zu\n", others_run, short_run, run);
     return 1;
 }
 

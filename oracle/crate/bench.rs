@@ -2,9 +2,10 @@
 //! TIMES it prints the best time of many of each side, in nanoseconds, and with `calls` how many calls it makes each time, once it is sure that the sides do the same. Sides:
 //! `text` is the crate's text on its own structs; `slots` the same with slots read and written; `port` the library; `port-28` the library on slots with clusters;
 //! `checks` the library, refusing by the check that it makes last; `copy-text`, `copy-28` and `copy` only put the input back and make empty calls, for `text`, `port-28` and
-//! the others. A move has only `port`, `checks` and `copy`.
+//! the others. A move has only `port`, `checks` and `copy`. Of a run the library's sides are one call of gpos_lookup, and `calls` are the single calls that it makes, one after
+//! another.
 use crate::buffer::{self, Buffer, GlyphPosition};
-use crate::cases::{with_clusters, Case};
+use crate::cases::{with_clusters, Case, NONE};
 use crate::frame::*;
 use crate::loaded::{coverage, Loaded};
 use crate::ot::apply::{ApplyContext, Neighbour};
@@ -16,6 +17,9 @@ use std::hint::black_box;
 #[repr(C)]
 struct GposAnswer([u64; 9]);
 
+#[repr(C)]
+struct GposRun([u64; 3]);
+
 /// A line, the bytes of a slot, a subtable, direction, s, u and index; then what the call has besides. A move has a line and a target.
 extern "C" {
     fn gpos_start(line: *mut u8, len: usize, size: usize) -> u32;
@@ -26,6 +30,10 @@ extern "C" {
     fn gpos_mark_base(l: *mut u8, n: usize, z: usize, t: *const u8, m: usize, d: u32, s: u32, u: u32, i: usize) -> GposAnswer;
     fn gpos_mark_ligature(l: *mut u8, n: usize, z: usize, t: *const u8, m: usize, d: u32, s: u32, u: u32, i: usize) -> GposAnswer;
     fn gpos_mark_mark(l: *mut u8, n: usize, z: usize, t: *const u8, m: usize, d: u32, s: u32, u: u32, i: usize, none: u32, earlier: usize) -> GposAnswer;
+    fn gpos_lookup(
+        l: *mut u8, n: usize, z: usize, kind: u32, flag: u32, t: *const u8, m: usize, lens: *const usize, count: usize, d: u32, s: u32, u: u32,
+        list: *mut [u64; 3], places: usize,
+    ) -> GposRun;
     fn gpos_to_clusters(line: *const u8, len: usize, target: *mut u8, target_len: usize) -> u32;
     fn gpos_from_clusters(line: *const u8, len: usize, target: *mut u8, target_len: usize) -> u32;
 }
@@ -47,6 +55,9 @@ struct Bench {
     /// The context of a whole lookup, with the buffer.
     ctx: ApplyContext<'static>,
     loaded: Option<(Coverage<'static>, Loaded<'static>)>,
+    /// Is the library's side one run of the lookup? And its list of hazards.
+    whole: bool,
+    list: Vec<[u64; 3]>,
     /// What the calls refused, as a sum of numbers.
     refused: u64,
 }
@@ -75,29 +86,34 @@ fn library(kind: u8) -> Call {
         START => |b, _, _| b.refused += u64::from(unsafe { gpos_start(b.line.as_mut_ptr(), b.line.len(), b.size) }),
         FINISH => |b, _, _| b.refused += u64::from(unsafe { gpos_finish(b.line.as_mut_ptr(), b.line.len(), b.size, b.direction, 64, 1) }),
         SINGLE => |b, index, _| applying!(gpos_single, b, index),
-        PAIR => |b, index, near| applying!(gpos_pair, b, index, 0, near),
-        CURSIVE => |b, index, near| applying!(gpos_cursive, b, index, 0, near, 0),
+        PAIR => |b, index, near| applying!(gpos_pair, b, index, u32::from(near == NONE), near.min(b.calls.len())),
+        CURSIVE => |b, index, near| applying!(gpos_cursive, b, index, u32::from(near == NONE), if near == NONE { 0 } else { near }, 0),
         MARK_BASE => |b, index, _| applying!(gpos_mark_base, b, index),
         MARK_LIGATURE => |b, index, _| applying!(gpos_mark_ligature, b, index),
-        MARK_MARK => |b, index, near| applying!(gpos_mark_mark, b, index, 0, near),
+        MARK_MARK => |b, index, near| applying!(gpos_mark_mark, b, index, u32::from(near == NONE), if near == NONE { 0 } else { near }),
         TO_CLUSTERS => moving!(gpos_to_clusters),
         _ => moving!(gpos_from_clusters),
     }
 }
 
-fn text_of(kind: u8) -> Call {
+macro_rules! text {
+    ($b:ident, $index:ident, $neighbour:expr) => {{
+        let Some((coverage, loaded)) = &$b.loaded else { return };
+        let ctx = &mut $b.ctx;
+        ctx.buffer.idx = $index;
+        ctx.buffer.hazard_count = 0;
+        ctx.neighbour = $neighbour;
+        let glyph = ctx.buffer.info[$index].as_glyph();
+        black_box(coverage.get(glyph).and_then(|k| loaded.apply(ctx, k)));
+    }};
+}
+
+fn text_of(kind: u8, whole: bool) -> Call {
     match kind {
         START => |b, _, _| position_start(b.ctx.buffer),
         FINISH => |b, _, _| position_finish_offsets(b.ctx.buffer),
-        _ => |b, index, near| {
-            let Some((coverage, loaded)) = &b.loaded else { return };
-            let ctx = &mut b.ctx;
-            ctx.buffer.idx = index;
-            ctx.buffer.hazard_count = 0;
-            ctx.neighbour = Neighbour::At(near);
-            let glyph = ctx.buffer.info[index].as_glyph();
-            black_box(coverage.get(glyph).and_then(|k| loaded.apply(ctx, k)));
-        },
+        _ if whole => |b, index, near| text!(b, index, if near == NONE { Neighbour::Missing(0) } else { Neighbour::At(near) }),
+        _ => |b, index, near| text!(b, index, Neighbour::At(near)),
     }
 }
 
@@ -110,6 +126,17 @@ fn each(b: &mut Bench, call: Call) {
         call(b, index, near);
     }
 }
+
+/// One run of the lookup in place of the calls.
+fn run_whole(b: &mut Bench, _: Call) {
+    let (line, len, table, list) = (b.line.as_mut_ptr(), b.line.len(), b.subtable, b.list.as_mut_ptr());
+    let (kind, m) = (u32::from(b.kind - SINGLE) + 1, table.len());
+    let ran = unsafe { gpos_lookup(line, len, b.size, kind, 0, table.as_ptr(), m, &m, 1, b.direction, 1000, 1000, list, b.list.len()) };
+    b.refused += black_box(&ran).0[0] & 0xFFFF_FFFF;
+}
+
+/// Of a run, nothing but the putting back.
+fn no_run(_: &mut Bench, _: Call) {}
 
 fn each_with_slots(b: &mut Bench, call: Call) {
     for k in 0..b.calls.len() {
@@ -134,6 +161,7 @@ fn put_back_line(b: &mut Bench) {
 
 impl Bench {
     fn new(case: Case) -> Self {
+        let places = 2 * case.line.len() / case.size;
         let buffer: &'static mut Buffer = Box::leak(Box::new(empty_buffer()));
         let subtable: &'static [u8] = case.subtable.leak();
         load(&case.line, case.size, buffer);
@@ -166,6 +194,8 @@ impl Bench {
             positions,
             ctx: context(&request, buffer),
             loaded: (case.kind >= SINGLE && case.kind < TO_CLUSTERS).then(|| (coverage(subtable), Loaded::new(case.kind, subtable, case.kern).unwrap())),
+            whole: case.run,
+            list: if case.run { vec![[0; 3]; places] } else { vec![] },
             refused: 0,
         }
     }
@@ -179,8 +209,12 @@ impl Bench {
     }
     /// How a side puts the input back, how it makes the calls, and what one call is.
     fn side(&self, name: &str) -> (fn(&mut Self), Side, Call) {
-        let (text, library) = (text_of(self.kind), library(self.kind));
+        let (text, library) = (text_of(self.kind, self.whole), library(self.kind));
         match name {
+            "port" | "port-28" | "checks" if self.whole => (put_back_line, run_whole, nothing),
+            "copy" | "copy-28" if self.whole => (put_back_line, no_run, nothing),
+            "calls" => (put_back_line, each, library),
+            "copy-calls" => (put_back_line, each, nothing),
             "text" => (put_back_text, each, text),
             "copy-text" => (put_back_text, each, nothing),
             "slots" => (put_back_line, each_with_slots, text),

@@ -9,14 +9,19 @@ pub struct Case {
     pub line: Vec<u8>,
     /// Of a move, the target.
     pub subtable: Vec<u8>,
-    /// Index and neighbour of each call; only applying calls can be several.
+    /// Index and neighbour of each call, or `NONE`; only applying calls can be several. Of a run, those that it makes.
     pub calls: Vec<(usize, usize)>,
+    /// Is the library's side one run of the lookup?
+    pub run: bool,
     /// Where the entry of a list is that the last check looks at; 0 there is refused with 6. In starting and finishing the last slot's flags are looked at last, in
     /// moving the target's length, or the last slot's cluster.
     last: usize,
     /// Is the text that of the crate's own types for kerning?
     pub kern: bool,
 }
+
+/// In place of a neighbour that is missing.
+pub const NONE: usize = usize::MAX;
 
 #[derive(Clone, Copy)]
 struct Slot {
@@ -149,8 +154,45 @@ fn stacked(k: usize) -> Slot {
     }
 }
 
+/// A letter, then marks alone.
+fn heaped(k: usize) -> Slot {
+    if k == 0 { PLAIN } else { Slot { glyph: 101, flags: 2, ..PLAIN } }
+}
+
+/// What a lookup is run over: a line, a subtable, and the neighbour of each slot, or none.
+fn run_of(case: &str, slots: usize) -> (u8, Vec<u8>, Vec<u8>, fn(usize, usize) -> usize) {
+    let all = |glyph, flags| line(slots, |_| Slot { glyph, flags, ..PLAIN });
+    let after: fn(usize, usize) -> usize = |k, n| if k + 1 < n { k + 1 } else { NONE };
+    let before: fn(usize, usize) -> usize = |k, _| if k > 0 { k - 1 } else { NONE };
+    let none: fn(usize, usize) -> usize = |_, _| NONE;
+    match case {
+        "single" => (SINGLE, all(1, 1), single(), none),
+        "single, uncovered" => (SINGLE, all(99, 1), single(), none),
+        "pair" => (PAIR, all(2, 1), pairs(), after),
+        "pair, miss" => (PAIR, all(3, 1), pairs(), after),
+        "pair, unseen" => (PAIR, all(2, 0), pairs(), none),
+        "classes" => (PAIR, all(2, 1), class_pairs(), after),
+        "cursive" => (CURSIVE, all(1, 1), cursive(), before),
+        "marks" => (MARK_BASE, line(slots, marked), marks(MARK_BASE), none),
+        "heaped" => (MARK_BASE, line(slots, heaped), marks(MARK_BASE), none),
+        "ligatures" => (MARK_LIGATURE, line(slots, marked), marks(MARK_LIGATURE), none),
+        "stacked" => (MARK_MARK, line(slots, stacked), marks(MARK_MARK), before),
+        _ => panic!("no run {case}"),
+    }
+}
+
 impl Case {
+    /// A run of a lookup of one subtable.
+    fn of_run(case: &str, slots: usize) -> Self {
+        let (kind, line, subtable, near) = run_of(case, slots);
+        let calls = (0..slots).map(|k| (k, near(k, slots))).collect();
+        let last = subtable.len() - if case == "classes" { 6 } else { 2 };
+        Self { kind, direction: 0, size: 24, line, subtable, calls, run: true, last, kern: false }
+    }
     pub fn new(call: &str, case: &str, slots: usize) -> Self {
+        if call == "run" {
+            return Self::of_run(case, slots);
+        }
         let pair = |second| line(slots, |k| Slot { glyph: if k == 1 { second } else { 1 }, ..PLAIN });
         let each_mark: Vec<_> = (0..slots).filter(|k| k % 2 == 1).map(|k| (k, 0)).collect();
         let each_stack: Vec<_> = (0..slots).filter(|k| k % 3 == 2).map(|k| (k, k - 1)).collect();
@@ -172,7 +214,7 @@ impl Case {
         };
         let last = subtable.len() - from_end;
         let size = if kind == FROM_CLUSTERS { 28 } else { 24 };
-        Self { kind, direction: u32::from(case == "against"), size, line, subtable, calls, last, kern: case.ends_with("kern") }
+        Self { kind, direction: u32::from(case == "against"), size, line, subtable, calls, run: false, last, kern: case.ends_with("kern") }
     }
     /// The same on slots with clusters.
     pub fn with_clusters(self) -> Self {

@@ -11,6 +11,8 @@ pub const MARK_LIGATURE: u8 = 6;
 pub const MARK_MARK: u8 = 7;
 pub const TO_CLUSTERS: u8 = 8;
 pub const FROM_CLUSTERS: u8 = 9;
+/// Several calls on one line. (10 is a run, which the port alone answers.)
+pub const SEQUENCE: u8 = 11;
 /// Asks which kinds are answered.
 pub const KINDS: u8 = 255;
 
@@ -18,6 +20,11 @@ pub const DONE: u64 = 0;
 pub const APPLIED: u64 = 1;
 pub const DECLINED: u64 = 2;
 pub const REFUSED: u64 = 3;
+/// Of a call in a sequence: it was passed over.
+pub const NOT_MADE: u64 = 4;
+
+/// The bytes of an answer before its line.
+pub const SAID: usize = 96;
 
 /// One request.
 pub struct Request<'a> {
@@ -43,7 +50,7 @@ pub fn be16(b: &[u8], at: usize) -> u16 {
 pub fn be32(b: &[u8], at: usize) -> u32 {
     u32::from_be_bytes(b[at..at + 4].try_into().unwrap())
 }
-fn be64(b: &[u8], at: usize) -> u64 {
+pub fn be64(b: &[u8], at: usize) -> u64 {
     u64::from_be_bytes(b[at..at + 8].try_into().unwrap())
 }
 

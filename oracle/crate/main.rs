@@ -368,6 +368,7 @@ mod frame;
 mod loaded;
 mod moves;
 mod refusal;
+mod sequence;
 mod serve;
 
 #[cfg(not(bench))]

@@ -6,6 +6,7 @@ use crate::moves::moved;
 use crate::ot;
 use crate::ot::apply::ApplyContext;
 use crate::refusal::refusal;
+use crate::sequence::sequence;
 use crate::{Direction, LayoutData, OtData, Scale};
 use std::io::{Read, Write};
 
@@ -103,14 +104,30 @@ fn finish(r: &Request, buffer: &mut Buffer, line: &mut [u8]) {
     }
 }
 
+/// What the search for a base remembers: what it found, and from where on it searched. A call by itself begins anew.
+pub struct Memory {
+    base: i32,
+    until: u32,
+}
+pub const NOTHING: Memory = Memory { base: -1, until: 0 };
+
+/// Applies, with what is remembered and will be.
+fn apply_with(r: &Request, buffer: &mut Buffer, memory: &mut Memory) -> Option<()> {
+    let mut ctx = context(r, buffer);
+    (ctx.last_base, ctx.last_base_until) = (memory.base, memory.until);
+    let done = apply(r, &mut ctx);
+    *memory = Memory { base: ctx.last_base, until: ctx.last_base_until };
+    done
+}
+
 /// An applying call that is not refused with 1 to 6.
-fn applying(r: &Request, buffer: &mut Buffer, out: &mut Vec<u8>) {
+fn applying(r: &Request, buffer: &mut Buffer, memory: &mut Memory, out: &mut Vec<u8>) {
     let fuel = match r.kind {
         MARK_BASE | MARK_LIGATURE | MARK_MARK => 64 * (buffer.len as u64 + 16),
         _ => u64::MAX,
     };
     bytemuck::FUEL.with(|f| f.set(fuel));
-    let got = std::panic::catch_unwind(std::panic::AssertUnwindSafe(|| apply(r, &mut context(r, &mut *buffer))));
+    let got = std::panic::catch_unwind(std::panic::AssertUnwindSafe(|| apply_with(r, &mut *buffer, memory)));
     bytemuck::FUEL.with(|f| f.set(u64::MAX));
     match got {
         Err(p) if p.is::<bytemuck::OutOfFuel>() => write(out, refused(7), r.line),
@@ -126,15 +143,15 @@ fn applying(r: &Request, buffer: &mut Buffer, out: &mut Vec<u8>) {
     }
 }
 
-pub fn serve(request: &[u8], buffer: &mut Buffer, out: &mut Vec<u8>) {
-    let r = parse(request);
+/// Answers a call.
+pub fn answer(r: &Request, buffer: &mut Buffer, memory: &mut Memory, out: &mut Vec<u8>) {
     if r.kind >= TO_CLUSTERS {
-        return match moved(&r) {
+        return match moved(r) {
             Ok(target) => write(out, Said { status: DONE, ..Said::default() }, &target),
             Err(number) => write(out, refused(number), r.subtable),
         };
     }
-    let number = refusal(&r);
+    let number = refusal(r);
     if number != 0 {
         return write(out, refused(number), r.line);
     }
@@ -142,16 +159,23 @@ pub fn serve(request: &[u8], buffer: &mut Buffer, out: &mut Vec<u8>) {
     buffer.idx = r.index;
     buffer.direction = direction(r.direction);
     if r.kind >= SINGLE {
-        return applying(&r, buffer, out);
+        return applying(r, buffer, memory, out);
     }
     let mut line = r.line.to_vec();
     if r.kind == START {
         ot::gpos::position_start(buffer);
         store(buffer, r.size, &mut line);
     } else {
-        finish(&r, buffer, &mut line);
+        finish(r, buffer, &mut line);
     }
     write(out, Said { status: DONE, ..Said::default() }, &line);
+}
+
+fn serve(request: &[u8], buffer: &mut Buffer, out: &mut Vec<u8>) {
+    match request[0] {
+        SEQUENCE => sequence(request, buffer, out),
+        _ => answer(&parse(request), buffer, &mut { NOTHING }, out),
+    }
 }
 
 /// Frames on standard input, a 32-bit big-endian length and the request; frames alike on standard output. An empty request asks to flush.

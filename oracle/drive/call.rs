@@ -69,7 +69,7 @@ pub fn form_name(form: usize) -> &'static str {
 /// The bytes of a request before its line.
 const HEADER: usize = 64;
 
-fn be(b: &[u8]) -> u64 {
+pub fn be(b: &[u8]) -> u64 {
     b.iter().fold(0, |n, x| n << 8 | u64::from(*x))
 }
 

@@ -106,9 +106,8 @@ fn pattern(r: &mut Rng, i: usize, n: usize, which: usize, s: &mut Slot) {
     };
 }
 
-/// A line without a fault.
-fn good_line(r: &mut Rng, size: usize) -> Vec<u8> {
-    let n = count(r);
+/// A line of n slots without a fault.
+pub fn good_line(r: &mut Rng, size: usize, n: usize) -> Vec<u8> {
     let which = if r.once_in(4) { r.below(6) } else { 9 };
     let mut out = Vec::with_capacity(size * n + size);
     for i in 0..n {
@@ -140,7 +139,14 @@ pub fn is_bad(slot: &[u8]) -> bool {
 }
 
 fn line(r: &mut Rng, size: usize, odds: usize) -> Vec<u8> {
-    let mut out = good_line(r, size);
+    let n = count(r);
+    let mut out = good_line(r, size, n);
+    spoil(r, &mut out, size, odds);
+    out
+}
+
+/// Seldom makes a slot bad, or the length wrong.
+pub fn spoil(r: &mut Rng, out: &mut Vec<u8>, size: usize, odds: usize) {
     if !out.is_empty() && r.once_in(odds) {
         let at = size * r.below(out.len() / size);
         match r.below(3) {
@@ -157,10 +163,9 @@ fn line(r: &mut Rng, size: usize, odds: usize) -> Vec<u8> {
             out.truncate(out.len().saturating_sub(cut));
         }
     }
-    out
 }
 
-fn scale(r: &mut Rng, low: u32, high: u32, odds: usize) -> u32 {
+pub fn scale(r: &mut Rng, low: u32, high: u32, odds: usize) -> u32 {
     if r.once_in(odds) {
         r.pick(&[low - 1, high + 1, u32::MAX, 0])
     } else {

@@ -12,6 +12,7 @@ mod mirrored;
 mod moves;
 mod planted;
 mod rng;
+mod runs;
 mod sets;
 mod shrink;
 mod sides;
@@ -20,7 +21,8 @@ mod tables;
 mod worked_sums;
 
 use call::*;
-use sides::Side;
+use runs::Run;
+use sides::{Asked, Side};
 
 /// What oracle/run was given.
 struct Options {
@@ -34,8 +36,13 @@ struct Options {
     replay: Option<String>,
     planted: bool,
     mirrored: Option<usize>,
+    /// Of a lookup: on short lines, and on long ones.
+    runs: Option<usize>,
+    long: Option<usize>,
     /// The list of replay, and that of sums.
     lists: Option<[String; 2]>,
+    /// Where recorded runs are written to.
+    record: Option<String>,
 }
 
 impl Options {
@@ -43,8 +50,13 @@ impl Options {
     fn calls(&self) -> usize {
         self.calls.unwrap_or(1_000_000)
     }
-    fn is_mirrored_alone(&self) -> bool {
-        self.mirrored.is_some() && self.calls.is_none()
+    /// Calls are not compared where something else is asked for, and they are not.
+    fn is_without_calls(&self) -> bool {
+        (self.mirrored.is_some() || self.runs.is_some()) && self.calls.is_none()
+    }
+    fn amount(&self, short: usize) -> runs::compare::Amount {
+        let long = self.long.unwrap_or(short / 100);
+        runs::compare::Amount { short, long, every: self.every, seed: self.seed }
     }
 }
 
@@ -75,7 +87,10 @@ fn options() -> Options {
         replay: None,
         planted: false,
         mirrored: None,
+        runs: None,
+        long: None,
         lists: None,
+        record: None,
     };
     let mut words = std::env::args().skip(1);
     while let Some(word) = words.next() {
@@ -91,6 +106,9 @@ fn options() -> Options {
             "--replay" => o.replay = Some(value()),
             "--planted" => o.planted = true,
             "--mirrored" => o.mirrored = Some(number(&value())),
+            "--runs" => o.runs = Some(number(&value())),
+            "--long" => o.long = Some(number(&value())),
+            "--record" => o.record = Some(value()),
             "--lists" => o.lists = Some([value(), value()]),
             _ => fail(&format!("unknown word {word}")),
         }
@@ -133,6 +151,39 @@ fn compare(o: &Options, kinds: &[usize]) -> bool {
     false
 }
 
+fn compare_runs(o: &Options, kinds: &[usize], short: usize) -> bool {
+    let began = std::time::Instant::now();
+    let kinds: Vec<usize> = kinds.iter().copied().filter(|k| is_applying(*k)).collect();
+    if kinds.is_empty() {
+        fail("--runs wants a kind that applies a subtable");
+    }
+    let jobs = runs::compare::plan(&kinds, o.amount(short));
+    let (tally, found) = runs::compare::run(&jobs, &o.oracle, &o.port, o.workers);
+    runs::compare::show(&tally);
+    let Some(found) = found else {
+        let (all, seconds) = (runs::compare::runs_of(&tally), began.elapsed().as_secs());
+        println!("{all} runs in {seconds} s, seed {}: the port leaves what the Rust's single calls leave", o.seed);
+        return true;
+    };
+    println!("A DIFFERENCE, made smaller:");
+    let (mut oracle, mut port) = (Side::start(&o.oracle), Side::start(&o.port));
+    let small = runs::shrink::shrink(found, &mut oracle, &mut port);
+    runs::shrink::show(&small, &mut oracle, &mut port);
+    println!("again: oracle/run --replay {}", hex(&small.frame()));
+    false
+}
+
+/// One call or one run again.
+fn replay(o: &Options, text: &str) -> bool {
+    let bytes = unhex(text).unwrap_or_default();
+    let (mut oracle, mut port) = (Side::start(&o.oracle), Side::start(&o.port));
+    if let Some(run) = Run::parse(&bytes) {
+        return runs::shrink::show(&run, &mut oracle, &mut port);
+    }
+    let call = Call::parse(&bytes).unwrap_or_else(|| fail("that is not the hex of a call or of a run"));
+    show(&call, &mut oracle, &mut port)
+}
+
 fn main() {
     let o = options();
     let have = Side::start(&o.port).kinds();
@@ -147,14 +198,18 @@ fn main() {
         }
         return list::write(paths, &kinds, &mut Side::start(&o.oracle), &mut Side::start(&o.port));
     }
+    if let Some(path) = &o.record {
+        return runs::record::write(path, &kinds, Side::start(&o.oracle), Side::start(&o.port));
+    }
     let good = if let Some(text) = &o.replay {
-        let call = unhex(text).and_then(|b| Call::parse(&b)).unwrap_or_else(|| fail("that is not the hex of a call"));
-        show(&call, &mut Side::start(&o.oracle), &mut Side::start(&o.port))
+        replay(&o, text)
     } else if o.planted {
-        planted::run(&kinds, &o.oracle, &o.port, o.calls(), o.seed)
+        let calls = o.is_without_calls() || planted::run(&kinds, &o.oracle, &o.port, o.calls(), o.seed);
+        runs::planted::run(&kinds, &o.oracle, &o.port, o.amount(o.runs.unwrap_or(60_000))) && calls
     } else {
         let mirrors = || o.mirrored.is_none_or(|n| mirrored::run(&kinds, &mut Side::start(&o.port), n, o.seed));
-        (o.is_mirrored_alone() || compare(&o, &kinds)) && mirrors()
+        let runs = || o.runs.is_none_or(|n| compare_runs(&o, &kinds, n));
+        (o.is_without_calls() || compare(&o, &kinds)) && mirrors() && runs()
     };
     std::process::exit(if good { 0 } else { 1 });
 }

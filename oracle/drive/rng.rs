@@ -3,11 +3,13 @@ pub struct Rng {
     state: u64,
     /// What is made of each value and coordinate that is drawn for a subtable.
     pub value: fn(i16) -> i16,
+    /// Is a glyph left out of a coverage, by a number that is drawn for it?
+    pub left_out: fn(u64) -> bool,
 }
 
 impl Rng {
     pub fn new(seed: u64) -> Self {
-        Self { state: seed, value: |v| v }
+        Self { state: seed, value: |v| v, left_out: |n| n % 5 == 0 }
     }
     pub fn next(&mut self) -> u64 {
         self.state = self.state.wrapping_add(0x9E37_79B9_7F4A_7C15);

@@ -3,6 +3,28 @@ use crate::call::*;
 use std::io::{BufReader, Read, Write};
 use std::process::{Child, ChildStdin, ChildStdout, Command, Stdio};
 
+/// What a program can be asked by one frame, and what it answers by one.
+pub trait Asked {
+    type Answer;
+    fn frame(&self) -> Vec<u8>;
+    fn parse(&self, answer: &[u8]) -> Self::Answer;
+    /// In the answer's place, where the program died.
+    fn died(&self) -> Self::Answer;
+}
+
+impl Asked for Call {
+    type Answer = Answer;
+    fn frame(&self) -> Vec<u8> {
+        self.frame()
+    }
+    fn parse(&self, answer: &[u8]) -> Answer {
+        Answer::parse(answer)
+    }
+    fn died(&self) -> Answer {
+        Answer::died()
+    }
+}
+
 /// A program that answers frames, and how to start it.
 pub struct Side {
     words: Vec<String>,
@@ -62,8 +84,8 @@ impl Side {
             }
         }
     }
-    fn try_ask(&mut self, calls: &[Call]) -> std::io::Result<Vec<Answer>> {
-        let frames: Vec<Vec<u8>> = calls.iter().map(Call::frame).collect();
+    fn try_ask<A: Asked>(&mut self, asked: &[A]) -> std::io::Result<Vec<A::Answer>> {
+        let frames: Vec<Vec<u8>> = asked.iter().map(A::frame).collect();
         let bytes = batch(frames.iter().map(Vec::as_slice));
         let (input, output) = (&mut self.input, &mut self.output);
         std::thread::scope(|scope| {
@@ -71,23 +93,23 @@ impl Side {
                 let _ = input.write_all(&bytes);
                 let _ = input.flush();
             });
-            calls.iter().map(|_| Ok(Answer::parse(&read_frame(output)?))).collect()
+            asked.iter().map(|a| Ok(a.parse(&read_frame(output)?))).collect()
         })
     }
-    /// The answers to the calls. Where the program dies, they are asked one by one, and it is started again.
-    pub fn ask(&mut self, calls: &[Call]) -> Vec<Answer> {
-        if let Ok(answers) = self.try_ask(calls) {
+    /// The answers, in order. Where the program dies, it is started again, and asked one by one.
+    pub fn ask<A: Asked>(&mut self, asked: &[A]) -> Vec<A::Answer> {
+        if let Ok(answers) = self.try_ask(asked) {
             return answers;
         }
         self.restart();
-        let mut one = |c: &Call| {
-            let got = self.try_ask(std::slice::from_ref(c));
-            got.map(|mut a| a.remove(0)).unwrap_or_else(|_| {
+        let mut one = |a: &A| {
+            let got = self.try_ask(std::slice::from_ref(a));
+            got.map(|mut answers| answers.remove(0)).unwrap_or_else(|_| {
                 self.restart();
-                Answer::died()
+                a.died()
             })
         };
-        calls.iter().map(&mut one).collect()
+        asked.iter().map(&mut one).collect()
     }
 }
 

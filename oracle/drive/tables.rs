@@ -47,7 +47,7 @@ fn assemble(r: &mut Rng, parent: Vec<u8>, mut children: Vec<(usize, Vec<u8>)>, o
 }
 
 fn coverage(r: &mut Rng, odds: usize) -> Vec<u8> {
-    let mut glyphs: Vec<u16> = (0..10).filter(|_| !r.once_in(5)).collect();
+    let mut glyphs: Vec<u16> = (0..10).filter(|_| !(r.left_out)(r.next())).collect();
     glyphs.extend([255, 256, 65534, 65535].into_iter().filter(|_| r.once_in(4)));
     if r.once_in(odds) && glyphs.len() > 1 {
         let k = r.below(glyphs.len() - 1);
