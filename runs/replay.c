@@ -1,6 +1,6 @@
-/* Makes recorded runs of lookups again, by gpos_lookup, and compares what they answer and leave with
-   what was recorded: what the Rust's single calls gave, made one after another (oracle/record).
-   Reads the file `recorded` on standard input, and stops at the first difference.
+/* Makes recorded runs of lookups again, by gpos_lookup, and compares what they answer and leave
+   with what was recorded: what the Rust's single calls gave, made one after another
+   (oracle/record). Reads the file `recorded` on standard input, and stops at the first difference.
 
    The file: how many runs, then they. A number is in groups of seven bits, the highest first, and
    every byte but its last has the high bit. A run has these numbers:
