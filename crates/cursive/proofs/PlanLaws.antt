@@ -22,11 +22,16 @@ told f e l = l ∙ sym (ap f e)
 pub found : {A B : Type 0} (f : A → B) {x y : A} {r : B} → y ≡ x → r ≡ f y → r ≡ f x
 found f e l = told f (sym e) l
 
--- the plan goes by the coverage that code found for the glyph that it read
-pub plan-is : (t : List ℕ) (ss : List Slot) (idx : ℕ) (n : Neighbour) {g : ℕ} {was q : Covered} {r : Plan} → g ≡ slot ss idx .glyph → was ≡ indexOf t g → was ≡ q
-    → r ≡ afterCovered t ss idx n q → r ≡ planOf t ss idx n
+-- the glyph's index, by the glyph that code read, the index that it found, and what it was told of that
+pub index-is : (t : List ℕ) (ss : List Slot) (idx : ℕ) {g : ℕ} {was is : Covered} → g ≡ slot ss idx .glyph → was ≡ indexOf t g → was ≡ is
+    → indexOf t (slot ss idx .glyph) ≡ is
+index-is t ss idx g-is was-is e = sym (was-is ∙ ap (indexOf t) g-is) ∙ e
+
+-- the plan goes by that index
+pub plan-is : (t : List ℕ) (ss : List Slot) (idx : ℕ) (n : Neighbour) {q : Covered} {r : Plan} → indexOf t (slot ss idx .glyph) ≡ q → r ≡ afterCovered t ss idx n q
+    → r ≡ planOf t ss idx n
 unfolding planOf
-plan-is t ss idx n g-is was-is e l = l ∙ ap (afterCovered t ss idx n) (sym e ∙ was-is ∙ ap (indexOf t) g-is)
+plan-is t ss idx n e l = told (afterCovered t ss idx n) e l
 
 -- what is said and done of a plan
 module _ (s u : ℕ) (d : Direction) (flag idx : ℕ) (plan : Plan) (ss : List Slot) where

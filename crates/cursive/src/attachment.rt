@@ -1,5 +1,6 @@
 // Joining two glyphs, along the line and across it.
 use crate::cursive_pos::Plan;
+use crate::cursive_pos::index_of;
 use crate::cursive_pos::plan_of;
 use answers::Answer;
 use answers::Hazards;
@@ -20,6 +21,7 @@ use slots::layout::CURSIVE_TYPE;
 use slots::shape::Shape;
 use tables::anchor::Point;
 use tables::anchor::coordinate_on;
+use tables::coverage::Covered;
 ghost use mathlib.Core.Bool.{true};
 ghost use mathlib.Core.Path.{_≡_};
 ghost use Prim.Native.Nat.{_<_};
@@ -27,17 +29,18 @@ ghost use Rattle.ints.specs.code.Scale.{InScale};
 ghost use Rattle.ints.specs.Signed.{InBytes};
 ghost use Rattle.ints.specs.code.Signed.{val};
 ghost use Rattle.slots.specs.code.Shape.{Inside};
-ghost use Rattle.slots.specs.Line.{slots, update};
+ghost use Rattle.slots.specs.Line.{slot, slots, update};
 ghost use Rattle.tables.specs.code.Meant.{Near16, pointOf};
+ghost use Rattle.tables.specs.declared.coverage.Covered.the-variants.{Index};
 ghost use Rattle.answers.specs.code.Effect.{MadeOn};
 ghost use Rattle.answers.specs.Said.{said};
 ghost use Rattle.answers.specs.code.Neighbours.{Before};
 ghost use Rattle.cursive.specs.Attachment.{cursiveAttachment, crossed, ended, joinedAt, previousJoined, pulled};
 ghost use Rattle.cursive.specs.Attachment.{rightToLeft, scaledAt, separatedBy, thisJoined, tied};
-ghost use Rattle.cursive.specs.CursivePos.{cursiveGood};
+ghost use Rattle.cursive.specs.CursivePos.{cursiveGood, indexOf};
 
-// The core: makes the plan for slot idx, and joins it to the previous slot or leaves the line as it was.
-// Whatever a public call refuses has been refused before.
+// The core: slot idx is joined to the previous slot, or the line left as it was. Whatever a public call refuses has been
+// refused before.
 pub fn apply(
     line: &mut [u8],
     shape: Shape,
@@ -53,7 +56,33 @@ pub fn apply(
     ensures { λ r. ⌜ MadeOn (cursiveAttachment (now (t .entry)) d s u idx previous flag)
         (slots shape (now (line .entry))) (said r) (slots shape (now (line .exit))) ⌝ }
 {
-    let plan = plan_of(line, shape, t, idx, previous);
+    match index_of(t, slots::fields::glyph(line, shape, idx)) {
+        Covered::Not => Answer::Declined {
+            hazards: Hazards::None,
+        },
+        Covered::Index(k) => apply_covered(line, shape, t, d, s, u, idx, k, previous, flag),
+    }
+}
+
+// The same of a glyph that is known to be covered, as k.
+pub fn apply_covered(
+    line: &mut [u8],
+    shape: Shape,
+    t: &[u8],
+    d: Direction,
+    s: u32,
+    u: u32,
+    idx: usize,
+    k: usize,
+    previous: Neighbour,
+    flag: u32,
+) -> Answer
+    requires { ⌜ Inside shape (now line) idx × Before idx previous × InScale s u × (cursiveGood (now t) ≡ true)
+        × (indexOf (now t) (slot (slots shape (now line)) idx .glyph) ≡ Index k) ⌝ }
+    ensures { λ r. ⌜ MadeOn (cursiveAttachment (now (t .entry)) d s u idx previous flag)
+        (slots shape (now (line .entry))) (said r) (slots shape (now (line .exit))) ⌝ }
+{
+    let plan = plan_of(line, shape, t, idx, k, previous);
     match plan {
         Plan::Stop(hazards) => Answer::Declined { hazards: hazards },
         Plan::Join {

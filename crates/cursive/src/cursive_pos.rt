@@ -16,8 +16,9 @@ ghost use mathlib.Core.Path.{_≡_};
 ghost use Prim.Native.Nat.{_<_};
 ghost use Rattle.ints.specs.Limits.{whole16};
 ghost use Rattle.slots.specs.code.Shape.{HasNext, Inside};
-ghost use Rattle.slots.specs.Line.{slots};
+ghost use Rattle.slots.specs.Line.{slot, slots};
 ghost use Rattle.tables.specs.code.Meant.{AnchorNear, Near16, anchorPoint, pointOf};
+ghost use Rattle.tables.specs.declared.coverage.Covered.the-variants.{Index};
 ghost use Rattle.answers.specs.code.Neighbours.{Before};
 ghost use Rattle.cursive.specs.CursivePos.{cursiveGood, afterEntry, afterExit, afterNeighbour, afterPrevious};
 ghost use Rattle.cursive.specs.CursivePos.{indexOf, planOf, recordAnchor};
@@ -64,26 +65,30 @@ pub fn is_good(t: &[u8]) -> bool
     tables::coverage::good_at(t, read_u16(t, COVERAGE_OFFSET) as usize)
 }
 
-// What is to be done for slot idx, whose neighbour before it the caller names. The tests stand in the source's order,
-// each in its own function below: this glyph covered, its entry anchor, the neighbour, the neighbour covered, its exit
-// anchor.
-pub fn plan_of(line: &[u8], shape: Shape, t: &[u8], idx: usize, previous: Neighbour) -> Plan
-    requires { ⌜ Inside shape (now line) idx × Before idx previous × (cursiveGood (now t) ≡ true) ⌝ }
+// What is to be done for slot idx, whose glyph is covered, as k, and whose neighbour before it the caller names. The
+// tests stand in the source's order, each in its own function below: its entry anchor, the neighbour, the neighbour
+// covered, its exit anchor.
+pub fn plan_of(
+    line: &[u8],
+    shape: Shape,
+    t: &[u8],
+    idx: usize,
+    k: usize,
+    previous: Neighbour,
+) -> Plan
+    requires { ⌜ Inside shape (now line) idx × Before idx previous × (cursiveGood (now t) ≡ true)
+        × (indexOf (now t) (slot (slots shape (now line)) idx .glyph) ≡ Index k) ⌝ }
     ensures { λ r. ⌜ (meant r ≡ planOf (now (t .entry)) (slots shape (now (line .entry))) idx previous)
         × Sound idx r ⌝ }
 {
-    let covered = index_of(t, slots::fields::glyph(line, shape, idx));
-    match covered {
-        Covered::Index(k) => after_entry(
-            line,
-            shape,
-            t,
-            idx,
-            previous,
-            record_anchor(t, k, ENTRY_ANCHOR),
-        ),
-        Covered::Not => Plan::Stop(Hazards::None),
-    }
+    after_entry(
+        line,
+        shape,
+        t,
+        idx,
+        previous,
+        record_anchor(t, k, ENTRY_ANCHOR),
+    )
 }
 
 // This glyph is covered: without an entry anchor the neighbour isn't looked at.
@@ -161,7 +166,7 @@ fn after_exit(idx: usize, i: usize, entry: Point, exit: Anchor) -> Plan
 }
 
 // A glyph's coverage index.
-fn index_of(t: &[u8], glyph: u32) -> Covered
+pub fn index_of(t: &[u8], glyph: u32) -> Covered
     requires { ⌜ (glyph < whole16) × (cursiveGood (now t) ≡ true) ⌝ }
     ensures { λ r. ⌜ r ≡ indexOf (now (t .entry)) glyph ⌝ }
 {

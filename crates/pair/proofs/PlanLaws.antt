@@ -14,7 +14,6 @@ use Rattle.slots.specs.Line.{slot}
 use Rattle.tables.specs.Header.{posFormat}
 use Rattle.tables.specs.ClassDef.{classAt}
 use Rattle.tables.specs.Part.{tableAt}
-use Rattle.tables.specs.declared.coverage.Covered.{Covered}
 use Rattle.tables.specs.declared.coverage.Covered.the-variants.{Index, Not}
 use Rattle.answers.specs.Said.{Range, unsafeToConcat}
 use Rattle.answers.specs.declared.Neighbour.{Neighbour}
@@ -95,14 +94,12 @@ module _ (t : List ℕ) (ss : List Slot) (idx k : ℕ) (n : Neighbour) where
   pub by-missing : (e : ℕ) → n ≡ Missing e → (hazards : List Range) → hazards ≡ unsafeToConcat idx e ∷ [] → stop hazards ≡ afterNeighbour t ss idx k n
   by-missing e m hazards q = rw m (ap stop q)
 
--- ---- coverage comes first: r is what was found
-module _ (t : List ℕ) (ss : List Slot) (idx : ℕ) (n : Neighbour) (g : ℕ) (r : Covered) (e : g ≡ slot ss idx .glyph) (i : r ≡ firstIndex t g) where
-  by-coverage : afterCovered t ss idx n r ≡ planOf t ss idx n
+-- ---- coverage comes first
+module _ (t : List ℕ) (ss : List Slot) (idx : ℕ) (n : Neighbour) where
+  pub covered : (k : ℕ) → firstIndex t (slot ss idx .glyph) ≡ Index k → (p : Plan) → p ≡ afterNeighbour t ss idx k n → p ≡ planOf t ss idx n
   unfolding planOf
-  by-coverage = ap (afterCovered t ss idx n) (i ∙ ap (firstIndex t) e)
+  covered k c p q = q ∙ sym (ap (afterCovered t ss idx n) c)
 
-  pub covered : (k : ℕ) → r ≡ Index k → (p : Plan) → p ≡ afterNeighbour t ss idx k n → p ≡ planOf t ss idx n
-  covered k c p q = q ∙ sym (ap (afterCovered t ss idx n) c) ∙ by-coverage
-
-  pub uncovered : r ≡ Not → stop [] ≡ planOf t ss idx n
-  uncovered c = sym (ap (afterCovered t ss idx n) c) ∙ by-coverage
+  pub uncovered : firstIndex t (slot ss idx .glyph) ≡ Not → stop [] ≡ planOf t ss idx n
+  unfolding planOf
+  uncovered c = sym (ap (afterCovered t ss idx n) c)

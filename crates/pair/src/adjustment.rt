@@ -2,8 +2,9 @@
 // applied (`apply_pair`).
 use crate::pair_pos::VALUE_FORMAT1;
 use crate::pair_pos::VALUE_FORMAT2;
+use crate::pair_pos::first_index;
 use crate::plan::Plan;
-use crate::plan::plan_of;
+use crate::plan::after_neighbour;
 use answers::Answer;
 use answers::Hazard;
 use answers::Hazards;
@@ -13,6 +14,7 @@ use answers::unsafe_to_concat;
 use ints::big_endian::read_u16;
 use slots::axis::Direction;
 use slots::shape::Shape;
+use tables::coverage::Covered;
 use values::format::record_at;
 use values::format::record_len;
 use values::value::apply_value;
@@ -21,16 +23,18 @@ ghost use mathlib.Core.Path.{_≡_};
 ghost use Prim.Native.Nat.{_+_, _<_};
 ghost use Rattle.ints.specs.code.Scale.{InScale};
 ghost use Rattle.slots.specs.code.Shape.{Inside};
-ghost use Rattle.slots.specs.Line.{slots};
+ghost use Rattle.slots.specs.Line.{slot, slots};
+ghost use Rattle.tables.specs.declared.coverage.Covered.the-variants.{Index};
 ghost use Rattle.answers.specs.code.Effect.{MadeOn};
 ghost use Rattle.answers.specs.Said.{range, said};
 ghost use Rattle.pair.specs.Adjustment.{pairAdjustment, eitherWorked, pairHazard, pairSaid, planned};
-ghost use Rattle.pair.specs.PairPos.{pairGood};
+ghost use Rattle.pair.specs.PairPos.{firstIndex, pairGood};
 ghost use Rattle.pair.specs.Plan.{adjust};
 ghost use Rattle.pair.specs.code.Meant.{After, indexEnd, placeEnd};
 
 // The pair of slot idx and the neighbour that the caller names, adjusted by the subtable t. The caller has checked the
-// line, the scale, the indices and the subtable.
+// line, the scale, the indices and the subtable. Coverage comes first: an uncovered first glyph declines without
+// hazard, also when the second is missing.
 pub fn apply(
     line: &mut [u8],
     shape: Shape,
@@ -47,7 +51,34 @@ pub fn apply(
         (said r)
         (slots shape (now (line .exit))) ⌝ }
 {
-    let plan = plan_of(line, shape, t, idx, neighbour);
+    match first_index(t, slots::fields::glyph(line, shape, idx)) {
+        Covered::Not => Answer::Declined {
+            hazards: Hazards::None,
+        },
+        Covered::Index(k) => apply_covered(line, shape, t, d, s, u, idx, k, neighbour),
+    }
+}
+
+// The same of a first glyph that is known to be covered, as k.
+pub fn apply_covered(
+    line: &mut [u8],
+    shape: Shape,
+    t: &[u8],
+    d: Direction,
+    s: u32,
+    u: u32,
+    idx: usize,
+    k: usize,
+    neighbour: Neighbour,
+) -> Answer
+    requires { ⌜ (pairGood (now t) ≡ true) × InScale s u × Inside shape (now line) idx
+        × After (shape .count) idx neighbour
+        × (firstIndex (now t) (slot (slots shape (now line)) idx .glyph) ≡ Index k) ⌝ }
+    ensures { λ r. ⌜ MadeOn (pairAdjustment (now (t .entry)) d s u idx neighbour) (slots shape (now (line .entry)))
+        (said r)
+        (slots shape (now (line .exit))) ⌝ }
+{
+    let plan = after_neighbour(line, shape, t, idx, k, neighbour);
     match plan {
         Plan::Stop(hazards) => Answer::Declined { hazards: hazards },
         Plan::Adjust { offset, at, second } => {

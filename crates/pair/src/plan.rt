@@ -6,7 +6,6 @@ use crate::pair_pos::CLASS1_RECORDS;
 use crate::pair_pos::CLASS2_COUNT;
 use crate::pair_pos::PAIR_SET_COUNT;
 use crate::pair_pos::PAIR_SET_OFFSETS;
-use crate::pair_pos::first_index;
 use crate::pair_pos::pair_length;
 use crate::pair_set::PAIR_VALUE_RECORDS;
 use crate::pair_set::Probe;
@@ -17,7 +16,6 @@ use answers::Neighbour;
 use answers::miss;
 use ints::big_endian::read_u16;
 use slots::shape::Shape;
-use tables::coverage::Covered;
 use tables::header::POS_FORMAT;
 use tables::part::OFFSET_SIZE;
 ghost use mathlib.Core.Bool.{true};
@@ -30,7 +28,7 @@ ghost use Rattle.slots.specs.Line.{slots};
 ghost use Rattle.tables.specs.Header.{posFormat};
 ghost use Rattle.tables.specs.Part.{tableAt};
 ghost use Rattle.pair.specs.PairPos.{pairGood, pairSet};
-ghost use Rattle.pair.specs.Plan.{afterClasses, afterNeighbour, afterProbe, afterSecond, afterSet, planOf};
+ghost use Rattle.pair.specs.Plan.{afterClasses, afterNeighbour, afterProbe, afterSecond, afterSet};
 ghost use Rattle.pair.specs.code.Meant.{After, meant, ProbeSmall, Sound};
 
 // What is to be done with a pair.
@@ -46,24 +44,9 @@ pub enum Plan {
     },
 }
 
-// Which record the pair of slot idx and its named neighbour has. Coverage comes first: an uncovered first glyph
-// declines without hazard, also when the second is missing.
-pub fn plan_of(line: &[u8], shape: Shape, t: &[u8], idx: usize, neighbour: Neighbour) -> Plan
-    requires { ⌜ (pairGood (now t) ≡ true) × Inside shape (now line) idx × After (shape .count) idx neighbour ⌝ }
-    ensures { λ r. ⌜ (meant (now (t .entry)) r
-        ≡ planOf (now (t .entry)) (slots shape (now (line .entry))) idx neighbour)
-        × Sound (now (t .entry)) (shape .count) idx r ⌝ }
-{
-    let covered = first_index(t, slots::fields::glyph(line, shape, idx));
-    match covered {
-        Covered::Index(k) => after_neighbour(line, shape, t, idx, k, neighbour),
-        Covered::Not => Plan::Stop(Hazards::None),
-    }
-}
-
 // A covered first glyph, of coverage index k: the pair with the slot that the caller names. Where none follows, another
 // glyph up to the bound that it names instead might have paired, which is a hazard.
-fn after_neighbour(
+pub fn after_neighbour(
     line: &[u8],
     shape: Shape,
     t: &[u8],

@@ -1,5 +1,5 @@
 -- Laws of the SinglePos subtable: what the check says of its bytes, and the effect of single adjustment with a record and without. Assumes nothing.
-use mathlib.Core.Path.{_≡_, refl, ap, _∙_}
+use mathlib.Core.Path.{_≡_, refl, sym, ap}
 use mathlib.Core.Bool.{true, false, _&&_}
 use mathlib.Core.List.{List, []}
 use mathlib.Core.Option.{some, none}
@@ -14,7 +14,7 @@ use Rattle.slots.specs.Slot.{Slot}
 use Rattle.slots.specs.Line.{slot, update}
 use Rattle.slots.specs.declared.axis.Direction.{Direction}
 use Rattle.tables.specs.Coverage.{coverageAt, coverageGoodAt}
-use Rattle.tables.specs.Header.{headerGood}
+use Rattle.tables.specs.Header.{coverageOffset, headerGood}
 use Rattle.tables.specs.declared.coverage.Covered.{Covered}
 use Rattle.tables.proofs.HeaderLaws.{header}
 use Rattle.values.specs.Format.{recordAt}
@@ -41,10 +41,10 @@ module _ (t : List ℕ) (good : singleGood t ≡ true) where
   pub coverage-good : coverageGoodAt t (natAt 2 t 2) ≡ true
   coverage-good = and-right (leb (natAt 2 t 4) 255) _ (and-right (headerGood 6 8 t) _ checked)
 
--- where a glyph's record is, by what the coverage at the offset `off` found
-pub place-by : (t : List ℕ) (g off : ℕ) (v : Covered) → off ≡ natAt 2 t 2 → v ≡ coverageAt t off g → valuePlace t v ≡ placeFor t g
+-- where a glyph's record is, by what the coverage found
+pub place-by : (t : List ℕ) (g : ℕ) (v : Covered) → coverageAt t (coverageOffset t) g ≡ v → valuePlace t v ≡ placeFor t g
 unfolding placeFor
-place-by t g off v o e = ap (valuePlace t) (e ∙ ap (λ (n : ℕ). coverageAt t n g) o)
+place-by t g v e = ap (valuePlace t) (sym e)
 
 -- ---- the effect on slot i of the slots ss, by where its glyph's record is
 module _ (s u : ℕ) (d : Direction) (t : List ℕ) (i : ℕ) (ss : List Slot) where

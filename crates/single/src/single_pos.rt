@@ -9,8 +9,10 @@ ghost use mathlib.Core.Bool.{true};
 ghost use mathlib.Core.Path.{_≡_};
 ghost use Prim.Native.Nat.{_<_};
 ghost use Rattle.ints.specs.Limits.{whole16};
+ghost use Rattle.tables.specs.Coverage.{coverageAt};
+ghost use Rattle.tables.specs.Header.{coverageOffset};
 ghost use Rattle.tables.specs.declared.coverage.Covered.the-variants.{Index};
-ghost use Rattle.single.specs.SinglePos.{placeFor, valuePlace, singleGood};
+ghost use Rattle.single.specs.SinglePos.{valuePlace, singleGood};
 ghost use Rattle.single.specs.code.Meant.{valuePlaceOf, ValuePlaceSmall};
 
 // The field of the header that both formats have after those of every subtable.
@@ -48,20 +50,16 @@ pub fn is_good(t: &[u8]) -> bool
     tables::coverage::good_at(t, read_u16(t, COVERAGE_OFFSET) as usize)
 }
 
-// Where the value record of a glyph is, in a subtable that is good.
-pub fn place_for(t: &[u8], glyph: u32) -> ValuePlace
+// A glyph's coverage index.
+pub fn index_of(t: &[u8], glyph: u32) -> Covered
     requires { ⌜ (glyph < whole16) × (singleGood (now t) ≡ true) ⌝ }
-    ensures { λ r. ⌜ (valuePlaceOf r ≡ placeFor (now (t .entry)) glyph) × ValuePlaceSmall r ⌝ }
+    ensures { λ r. ⌜ r ≡ coverageAt (now (t .entry)) (coverageOffset (now (t .entry))) glyph ⌝ }
 {
-    let covered = tables::coverage::index_at(t, read_u16(t, COVERAGE_OFFSET) as usize, glyph);
-    match covered {
-        Covered::Not => ValuePlace::Nowhere,
-        Covered::Index(k) => value_place(t, k),
-    }
+    tables::coverage::index_at(t, read_u16(t, COVERAGE_OFFSET) as usize, glyph)
 }
 
 // Where the value record of a coverage index is. A glyph covered past the end of the values has none.
-fn value_place(t: &[u8], k: usize) -> ValuePlace
+pub fn value_place(t: &[u8], k: usize) -> ValuePlace
     requires { ⌜ singleGood (now t) ≡ true ⌝ }
     ensures { λ r. ⌜ (valuePlaceOf r ≡ valuePlace (now (t .entry)) (Index k)) × ValuePlaceSmall r ⌝ }
 {

@@ -1,78 +1,67 @@
--- `cursive::attachment::apply` meets its contract: the plan is decided on, and a stop leaves the line as it was. Assumes nothing.
-use mathlib.Core.Path.{ap, subst, sym, _∙_}
-use native.Mathlib.Omega.{arith}
+-- `cursive::attachment::apply` meets its contract: the glyph isn't covered, or its index is known. Assumes nothing.
+use mathlib.Core.List.{[]}
+use mathlib.Core.Path.{refl}
 use denote.Ref.{now}
-use Rattle.answers.specs.Said.{ranges}
 use Rattle.slots.specs.Line.{slots}
-use Rattle.tables.specs.code.Meant.{pointOf}
 use Rattle.cursive.specs.CursivePos.{planOf}
-use Rattle.cursive.specs.code.Meant.{meant, Sound}
-use Rattle.cursive.proofs.PlanLaws.{effect-join, effect-stop}
+use Rattle.cursive.proofs.PlanLaws.{effect-stop, index-is, plan-is}
 use borrow.Author.Needs.{needs}
 use Rattle.cursive.proofs.attachment.apply.Statement.{statement}
 use Rattle.cursive.proofs.attachment.apply.Tie as tie
 
-plan-of-requires : tie.Need-plan-of-requires
-plan-of-requires c κs = search needs
+glyph-requires : tie.Need-glyph-requires
+glyph-requires c κs = search needs
 
-enum-known-plan : tie.Need-enum-known-plan
-enum-known-plan c = search needs
+index-of-requires : tie.Need-index-of-requires
+index-of-requires c κs = search needs
 
-enum-known-plan-2 : tie.Need-enum-known-plan-2
-enum-known-plan-2 c = search needs
+enum-told : tie.Need-enum-told
+enum-told c = search needs
 
-join-requires : tie.Need-join-requires
-join-requires c κs =
+enum-known-k : tie.Need-enum-known-k
+enum-known-k c = search needs
+
+apply-covered-requires : tie.Need-apply-covered-requires
+apply-covered-requires c κs =
     let k = c .before .before in
-    let s = k .before .before .before .before .before .before in
-    let w = subst (Sound (s .args .idx)) (k .plan2 .given .1) (k .before .before .plan-of .ensures .1) in
-    (w .0, omega arith, s .pre .2, w .1 .0, w .1 .1)
-
-add-t21 : tie.Need-add-t21
-add-t21 c = search needs
-
-add-unsafe-to-break : tie.Need-add-unsafe-to-break
-add-unsafe-to-break c = search needs
-
-unsafe-to-break-requires : tie.Need-unsafe-to-break-requires
-unsafe-to-break-requires c κs = search needs
+    let i = k .before .before in
+    let g = i .before in
+    let s = g .before .before .before .before in
+    let a = s .args in (
+      s .pre .0,
+      s .pre .1,
+      s .pre .2,
+      s .pre .3,
+      index-is (now (a .t)) (slots (a .shape) (now (a .line))) (a .idx) (g .glyph .ensures .0) (i .index-of .ensures) (k .k .given .1),
+    )
 
 same-length : tie.Need-same-length
 same-length c = search needs
 
 returns : tie.Need-returns
 returns c =
-    let k = c .before in
-    let a = k .before .before .before .before .before .before .args in
+    let i = c .before .before in
+    let g = i .before in
+    let a = g .before .before .before .before .args in
     let ss = slots (a .shape) (now (a .line)) in
-    effect-stop (a .s) (a .u) (a .d) (a .flag) (a .idx) (planOf (now (a .t)) ss (a .idx) (a .previous)) ss (ranges (k .plan .given .0 .0))
-    (sym (ap meant (k .plan .given .1)) ∙ k .before .before .plan-of .ensures .0)
+    effect-stop (a .s) (a .u) (a .d) (a .flag) (a .idx) (planOf (now (a .t)) ss (a .idx) (a .previous)) ss []
+    (plan-is (now (a .t)) ss (a .idx) (a .previous) (index-is (now (a .t)) ss (a .idx) (g .glyph .ensures .0) (i .index-of .ensures) (c .enum-told .given .1)) refl)
 
 same-length-2 : tie.Need-same-length-2
 same-length-2 c = search needs
 
 returns-2 : tie.Need-returns-2
-returns-2 c =
-    let j = c .before .before .before in
-    let k = j .before .before .before in
-    let a = k .before .before .before .before .before .before .args in
-    let ss = slots (a .shape) (now (a .line)) in
-    let w = k .plan2 .given .0 in
-    rw (c .unsafe-to-break .ensures)
-    (effect-join (a .s) (a .u) (a .d) (a .flag) (a .idx) (planOf (now (a .t)) ss (a .idx) (a .previous)) ss (w .0) (pointOf (w .1 .0)) (pointOf (w .1 .1 .0)) _
-    (sym (ap meant (k .plan2 .given .1)) ∙ k .before .before .plan-of .ensures .0) (j .join .ensures))
+returns-2 c = search needs
 
 pub apply-spec : {M : Type 1} → statement M
 apply-spec =
     tie.close
     (tie.spec
-    plan-of-requires
-    enum-known-plan
-    enum-known-plan-2
-    join-requires
-    add-t21
-    add-unsafe-to-break
-    unsafe-to-break-requires
+    glyph-requires
+    index-of-requires
+    enum-told
+    enum-known-k
+    apply-covered-requires
     same-length
     returns
     same-length-2
