@@ -5,4 +5,5 @@ pub mod MovingLaws
 pub mod Unique
 pub mod Examples
 pub mod RunCallLaws
+pub mod PassLaws
 pub mod RunLaws

@@ -4,9 +4,9 @@ use mathlib.Core.Bool.{Bool, true, false, _||_}
 use mathlib.Core.List.{List, [], _∷_, _++_, map}
 use mathlib.Core.Option.{Option, some, none, Option·none-ne-some}
 use Prim.Native.Nat.{ℕ, zero, suc, zero-le, _+_, _*_, _/_, _^_, _≤_, _<_}
-use native.Mathlib.Nat.{add-assoc, add-zero, mul-assoc, mul-le-mul-right, suc-ne-zero, zero-add, zero-mul}
+use native.Mathlib.Nat.{add-assoc, add-zero, mul-assoc, mul-le-mul-right, suc-mul, suc-ne-zero, zero-add, zero-mul}
 use native.Mathlib.Omega.{arith}
-use borrow.Author.Tests.{eq-eqb, eqb-false, eqb-true, ltb-false, ne-eqb}
+use borrow.Author.Tests.{eq-eqb, eqb-false, eqb-true, lt-ltb, ltb-false, ne-eqb}
 use lib.Dec.{eqb, ltb}
 use lib.ListN.{drop, getD, length, length-append, length-map}
 use Rattle.ints.specs.BigEndian.{AllBytes}
@@ -31,10 +31,13 @@ use Rattle.records.proofs.Laws.{few, front, length-setAll, records-all, setAll-
 use Rattle.lookup.specs.Kinds.{goodFor, kindOf}
 use Rattle.lookup.specs.Neighbours.{neighbourFor}
 use Rattle.lookup.specs.Refusals.{badLookup, unfit, verdict}
-use Rattle.lookup.specs.Subtables.{subtable, subtables}
+use Rattle.lookup.specs.Subtables.{every, subtable, subtables}
 use Rattle.lookup.specs.code.Beginning.{begun, begunAs, endOf, firstState, lookupOf, noMemory, notBegun}
 use Rattle.lookup.specs.code.Calls.{callFor, callNow, slotsNow}
-use Rattle.lookup.specs.code.Run.{arrived, ended, Fine, goes, leftNow, lineOf, Next, nextState, saidNow, stopped, subtableNow, tried, turnOf}
+use Rattle.lookup.specs.code.Covered.{nextPlace}
+use Rattle.lookup.specs.code.Run.{called, ended, Fine, goes, lineCalled, lineOf, movedTo, Next, nextState, Placed, placeNow, saidNow, turnOf}
+use Rattle.lookup.specs.declared.covered.Place.{Place}
+use Rattle.lookup.specs.declared.covered.Place.the-variants.{At, Nowhere}
 use Rattle.lookup.specs.declared.kinds.Kind.{Kind}
 use Rattle.lookup.specs.declared.state.End.{End}
 use Rattle.lookup.specs.declared.state.End.the-variants.{Done, Endless, Refused, Unfit}
@@ -43,12 +46,13 @@ use Rattle.lookup.specs.declared.state.Memory.{Memory}
 use Rattle.lookup.specs.declared.state.Settings.{Settings}
 use Rattle.lookup.specs.declared.state.State.{State}
 use Rattle.lookup.specs.declared.turns.Turned.{Turned}
-use Rattle.lookup.proofs.BeginningLaws.{begun-fine, verdict-kind, verdict-room}
-use Rattle.lookup.proofs.FairLaws.{Ahead, Fair}
+use Rattle.lookup.proofs.BeginningLaws.{begun-fine, is-fit, verdict-kind, verdict-room}
+use Rattle.lookup.proofs.FairLaws.{Fair}
 use Rattle.lookup.proofs.SubtableLaws.{one-good}
-use Rattle.lookup.proofs.TurnLaws.{is-fair, left-length, line-length}
-use Rattle.gpos.specs.Running.{after, atEnd, before, callAt, comesTo, goesOn, lineOn, LookupCall, place, Place, run, Run, runFor, runIn, runLine, runList, runSaid, saidAt, saidOn, Stage, standing, stoppedAt}
+use Rattle.lookup.proofs.TurnLaws.{is-fair, is-placed, line-turned, near-now, turn-is, turn-length}
+use Rattle.gpos.specs.Running.{after, atEnd, before, callAt, comesTo, goesOn, lineOn, LookupCall, place, Place as Spot, run, Run, runFor, runIn, runLine, runList, runSaid, saidAt, saidOn, Stage, standing, stoppedAt}
 use Rattle.gpos.specs.code.Ending.{endedAs, endingOf}
+use Rattle.gpos.proofs.PassLaws.{onward, Passed, passes, Passing, run-ended, run-on, run-stopped}
 use Rattle.gpos.proofs.RunCallLaws.{core-leaves, core-says}
 
 -- ---- what a state of code stands for
@@ -58,18 +62,19 @@ stageAt Endless st = stoppedAt (st .index)
 stageAt (Refused r) st = atEnd false
 stageAt Unfit st = atEnd false
 
-abbrev placeOf : State → Place
+abbrev placeOf : State → Spot
 placeOf st = place (st .index) (st .subtable) (st .attached)
 
-abbrev stageBy : Bool → State → Stage
-stageBy true st = goesOn (placeOf st)
-stageBy false st = stageAt (st .end) st
+-- in a line of n slots, with c subtables
+abbrev stageBy : (n c : ℕ) → Bool → State → Stage
+stageBy n c true st = onward n c (st .index) (st .subtable) (st .attached)
+stageBy n c false st = stageAt (st .end) st
 
-abbrev stageOf : State → Stage
-stageOf st = stageBy (eqb (st .code) 0) st
+abbrev stageOf : (n c : ℕ) → State → Stage
+stageOf n c st = stageBy n c (eqb (st .code) 0) st
 
-stage-goes : (st : State) → st .code ≡ 0 → stageOf st ≡ goesOn (placeOf st)
-stage-goes st e = ap (λ (b : Bool). stageBy b st) (eq-eqb (st .code) 0 e)
+stage-goes : (n c : ℕ) (st : State) → st .code ≡ 0 → stageOf n c st ≡ onward n c (st .index) (st .subtable) (st .attached)
+stage-goes n c st e = ap (λ (b : Bool). stageBy n c b st) (eq-eqb (st .code) 0 e)
 
 -- a run that began ends so
 abbrev Proper : End → Type 0
@@ -108,95 +113,59 @@ never-applied ts n hs a = of-unless (λ s. s ≡ applied n hs a → ⊥) (λ m e
 never-declined : (ts : List (Bool × ℕ)) (hs : List Range) → unless ts done ≡ declined hs → ⊥
 never-declined ts hs = of-unless (λ s. s ≡ declined hs → ⊥) (λ m e. clash (cc)) ts done (λ _ e. clash (cc))
 
--- ---- the definition's run, by one turn
-module _ (kind : Kind) (g : Settings) (ts : List (List ℕ)) where
-  run-on : (k : ℕ) (l : List ℕ) (p : Place)
-      → runIn kind g ts (suc k) l (goesOn p) ≡ before (hazardsOf (saidOn kind g ts l p)) (runIn kind g ts k (lineOn kind g ts l p) (after (count (g .size) l) (length ts) p (saidOn kind g ts l p)))
-  unfolding runIn
-  run-on k l p = refl
-
-  run-over : (k : ℕ) (l : List ℕ) (end : End) (st : State) → runIn kind g ts k l (stageAt end st) ≡ standing l (stageAt end st)
-  unfolding runIn
-  run-over zero l end st = refl
-  run-over (suc k) l Done st = refl
-  run-over (suc k) l Endless st = refl
-  run-over (suc k) l (Refused r) st = refl
-  run-over (suc k) l Unfit st = refl
+-- ---- the definition's run, once it is over
+run-over : (kind : Kind) (g : Settings) (ts : List (List ℕ)) (k : ℕ) (l : List ℕ) (end : End) (st : State) → runIn kind g ts k l (stageAt end st) ≡ standing l (stageAt end st)
+run-over kind g ts k l Done st = run-ended kind g ts k l (st .attached)
+run-over kind g ts k l Endless st = run-stopped kind g ts k l (st .index)
+run-over kind g ts k l (Refused r) st = run-ended kind g ts k l false
+run-over kind g ts k l Unfit st = run-ended kind g ts k l false
 
 -- a kind that is known
 pub record Known (o : Option Kind) : Type 0 where
   pub kind : Kind
   pub is : o ≡ some kind
 
+only : (k k′ : Kind) → some k ≡ some k′ → k ≡ k′
+only k k′ e = cc
+
 -- where a run begins
-first-told : (k : Lookup) (ss : List Slot) → firstState k ss .lookup ≡ k
-first-told k ss = go (ltb 0 (length ss))
-  where
-    go : (t : Bool) → (if t then goes 0 0 0 false (neighbourFor (k .kind) ss 0) noMemory k else ended Done 0 0 0 false (Missing 0) noMemory k) .lookup ≡ k
-    go true = refl
-    go false = refl
+module _ (k : Lookup) (ss : List Slot) where
+  abbrev firstBy : Bool → State
+  firstBy z = if z then goes 0 0 0 false (neighbourFor (k .kind) ss 0) 0 noMemory k else ended Done 0 false noMemory k
 
-first-proper : (k : Lookup) (ss : List Slot) → Proper (firstState k ss .end)
-first-proper k ss = go (ltb 0 (length ss))
-  where
-    go : (t : Bool) → Proper ((if t then goes 0 0 0 false (neighbourFor (k .kind) ss 0) noMemory k else ended Done 0 0 0 false (Missing 0) noMemory k) .end)
-    go true = tt
-    go false = tt
+  first-told : firstState k ss .lookup ≡ k
+  first-told = go (ltb 0 (length ss))
+    where
+      go : (z : Bool) → firstBy z .lookup ≡ k
+      go true = refl
+      go false = refl
 
-first-stage : (k : Lookup) (ss : List Slot) → stageOf (firstState k ss) ≡ comesTo (length ss) 0 false
-first-stage k ss = go (ltb 0 (length ss))
-  where
-    go : (t : Bool) → stageOf (if t then goes 0 0 0 false (neighbourFor (k .kind) ss 0) noMemory k else ended Done 0 0 0 false (Missing 0) noMemory k)
-        ≡ (if t then goesOn (place 0 0 false) else atEnd false)
-    go true = refl
-    go false = refl
+  first-proper : Proper (firstState k ss .end)
+  first-proper = go (ltb 0 (length ss))
+    where
+      go : (z : Bool) → Proper (firstBy z .end)
+      go true = tt
+      go false = tt
 
-arrived-told : (ss : List Slot) (st : State) (m : Memory) (n : ℕ) (a : Bool) → arrived ss st m n a .lookup ≡ st .lookup
-arrived-told ss st m n a = go (ltb n (length ss))
-  where
-    go : (t : Bool) → (if t then goes n 0 0 a (neighbourFor (st .lookup .kind) ss n) m (st .lookup) else ended Done n 0 0 a (st .near) m (st .lookup)) .lookup ≡ st .lookup
-    go true = refl
-    go false = refl
-
-arrived-proper : (ss : List Slot) (st : State) (m : Memory) (n : ℕ) (a : Bool) → Proper (arrived ss st m n a .end)
-arrived-proper ss st m n a = go (ltb n (length ss))
-  where
-    go : (t : Bool) → Proper ((if t then goes n 0 0 a (neighbourFor (st .lookup .kind) ss n) m (st .lookup) else ended Done n 0 0 a (st .near) m (st .lookup)) .end)
-    go true = tt
-    go false = tt
+  first-stage : (c : ℕ) → 0 < c → stageOf (length ss) c (firstState k ss) ≡ comesTo (length ss) 0 false
+  first-stage c h = go (ltb 0 (length ss)) refl
+    where
+      go : (z : Bool) → ltb 0 (length ss) ≡ z → stageOf (length ss) c (firstBy z) ≡ (if z then goesOn (place 0 0 false) else atEnd false)
+      go true e = rw (e, lt-ltb 0 c h)
+      go false e = refl
 
 -- what a state is told doesn't change, and it ends as it should
-next-proper : (lens : List ℕ) (ss : List Slot) (st : State) (m : Memory) (s : Said) → Proper (nextState lens ss st m s .end)
-next-proper lens ss st m (applied n hs a) = arrived-proper ss st m n (st .attached || a)
-next-proper lens ss st m (declined hs) = go (ltb (st .subtable + 1) (length lens))
-  where
-    other : State
-    other = arrived ss st m (st .index + 1) (st .attached)
+next-proper : (end : ℕ) (st : State) (m : Memory) (s : Said) → Proper (nextState end st m s .end)
+next-proper end st m (applied n hs a) = tt
+next-proper end st m (declined hs) = tt
+next-proper end st m (refused n) = tt
+next-proper end st m done = tt
 
-    next : State
-    next = goes (st .index) (st .subtable + 1) (st .start + getD lens (st .subtable) 0) (st .attached) (st .near) m (st .lookup)
-
-    go : (t : Bool) → Proper ((if t then next else other) .end)
-    go true = tt
-    go false = arrived-proper ss st m (st .index + 1) (st .attached)
-next-proper lens ss st m (refused n) = tt
-next-proper lens ss st m done = tt
-
-kept-told : (lens : List ℕ) (ss : List Slot) (st : State) (m : Memory) (s : Said) → nextState lens ss st m s .lookup ≡ st .lookup
-kept-told lens ss st m (applied n hs a) = arrived-told ss st m n (st .attached || a)
-kept-told lens ss st m (declined hs) = go (ltb (st .subtable + 1) (length lens))
-  where
-    other : State
-    other = arrived ss st m (st .index + 1) (st .attached)
-
-    next : State
-    next = goes (st .index) (st .subtable + 1) (st .start + getD lens (st .subtable) 0) (st .attached) (st .near) m (st .lookup)
-
-    go : (t : Bool) → (if t then next else other) .lookup ≡ st .lookup
-    go true = refl
-    go false = arrived-told ss st m (st .index + 1) (st .attached)
-kept-told lens ss st m (refused n) = refl
-kept-told lens ss st m done = refl
+kept-told : (end : ℕ) (st : State) (m : Memory) (s : Said) → nextState end st m s .lookup ≡ st .lookup
+kept-told end st m (applied n hs a) = refl
+kept-told end st m (declined hs) = refl
+kept-told end st m (refused n) = refl
+kept-told end st m done = refl
 
 -- records of hazards that arose one after another
 map-append : (hs gs : List Range) → map recordOf (hs ++ gs) ≡ map recordOf hs ++ map recordOf gs
@@ -209,67 +178,27 @@ unfolding subtables
 length-subtables [] b = refl
 length-subtables (n ∷ ns) b = ap suc (length-subtables ns _)
 
--- where a run goes on: code's state stands for the definition's stage
-module _ (st : State) (m : Memory) (ss : List Slot) where
-  arrived-stage : (n : ℕ) (a : Bool) → comesTo (length ss) n a ≡ stageOf (arrived ss st m n a)
-  arrived-stage n a = go (ltb n (length ss))
-    where
-      go : (t : Bool) → (if t then goesOn (place n 0 a) else atEnd a)
-          ≡ stageOf (if t then goes n 0 0 a (neighbourFor (st .lookup .kind) ss n) m (st .lookup) else ended Done n 0 0 a (st .near) m (st .lookup))
-      go true = refl
-      go false = refl
+-- where a run goes on: code's state stands for the definition's stage, and is further on
+module _ (n c end : ℕ) (st : State) (m : Memory) (in-line : st .index < n) (in-list : st .subtable < c) where
+  next-stage : (s : Said) → after n c (placeOf st) s ≡ stageOf n c (nextState end st m s)
+  next-stage (applied k hs a) = rw (lt-ltb 0 c (omega arith))
+  next-stage (declined hs) = rw (lt-ltb (st .index) n in-line)
+  next-stage (refused k) = refl
+  next-stage done = refl
 
-  tried-stage : (c start : ℕ) → after (length ss) c (placeOf st) (declined []) ≡ stageOf (tried c start ss st m)
-  tried-stage c start = go (ltb (st .subtable + 1) c)
-    where
-      go : (t : Bool) → (if t then goesOn (place (st .index) (st .subtable + 1) (st .attached)) else comesTo (length ss) (st .index + 1) (st .attached))
-          ≡ stageOf (if t then goes (st .index) (st .subtable + 1) start (st .attached) (st .near) m (st .lookup) else arrived ss st m (st .index + 1) (st .attached))
-      go true = refl
-      go false = arrived-stage (st .index + 1) (st .attached)
+  next-further : (s : Said) → Fair (st .index) n s → nextState end st m s .code ≡ 0 → st .index * c + st .subtable < nextState end st m s .index * c + nextState end st m s .subtable
+  next-further (applied k hs a) f e = let ahead : st .index + 1 ≤ k = omega (arith, f .1 .0) in omega (arith, mul-le-mul-right c ahead, suc-mul (st .index) c)
+  next-further (declined hs) f e = omega arith
+  next-further (refused k) f e = absurd (suc-ne-zero _ e)
+  next-further done f e = absurd (suc-ne-zero _ e)
 
-  next-stage : (lens : List ℕ) (s : Said) → after (length ss) (length lens) (placeOf st) s ≡ stageOf (nextState lens ss st m s)
-  next-stage lens (applied n hs a) = arrived-stage n (st .attached || a)
-  next-stage lens (declined hs) = tried-stage (length lens) (st .start + getD lens (st .subtable) 0)
-  next-stage lens (refused n) = refl
-  next-stage lens done = refl
-
-  -- and the call after it is further on, with c subtables
-  module _ (c : ℕ) (in-list : st .subtable < c) where
-    arrived-further : (n : ℕ) (a : Bool) → st .index < n → arrived ss st m n a .code ≡ 0 → st .index * c + st .subtable < arrived ss st m n a .index * c + arrived ss st m n a .subtable
-    arrived-further n a h = go (ltb n (length ss))
-      where
-        go : (t : Bool)
-            → (if t then goes n 0 0 a (neighbourFor (st .lookup .kind) ss n) m (st .lookup) else ended Done n 0 0 a (st .near) m (st .lookup)) .code ≡ 0
-            → st .index * c + st .subtable
-            < (if t then goes n 0 0 a (neighbourFor (st .lookup .kind) ss n) m (st .lookup) else ended Done n 0 0 a (st .near) m (st .lookup)) .index * c
-            + (if t then goes n 0 0 a (neighbourFor (st .lookup .kind) ss n) m (st .lookup) else ended Done n 0 0 a (st .near) m (st .lookup)) .subtable
-        go true e = omega (arith, mul-le-mul-right c h)
-        go false e = absurd (suc-ne-zero _ e)
-
-    tried-further : (start : ℕ) → tried c start ss st m .code ≡ 0 → st .index * c + st .subtable < tried c start ss st m .index * c + tried c start ss st m .subtable
-    tried-further start = go (ltb (st .subtable + 1) c)
-      where
-        next : State
-        next = goes (st .index) (st .subtable + 1) start (st .attached) (st .near) m (st .lookup)
-
-        other : State
-        other = arrived ss st m (st .index + 1) (st .attached)
-
-        go : (t : Bool) → (if t then next else other) .code ≡ 0 → st .index * c + st .subtable < (if t then next else other) .index * c + (if t then next else other) .subtable
-        go true e = omega arith
-        go false e = arrived-further (st .index + 1) (st .attached) (omega arith) e
-
-next-further : (st : State) (m : Memory) (ss : List Slot) (n : ℕ) (lens : List ℕ) → st .subtable < length lens → (s : Said) → Fair (st .index) n s → nextState lens ss st m s .code ≡ 0
-    → st .index * length lens + st .subtable < nextState lens ss st m s .index * length lens + nextState lens ss st m s .subtable
-next-further st m ss n lens h (applied k hs a) f e = arrived-further st m ss (length lens) h k (st .attached || a) (f .1 .0) e
-next-further st m ss n lens h (declined hs) f e = tried-further st m ss (length lens) h (st .start + getD lens (st .subtable) 0) e
-next-further st m ss n lens h (refused k) f e = absurd (suc-ne-zero _ e)
-next-further st m ss n lens h done f e = absurd (suc-ne-zero _ e)
-
--- ---- one turn is one single call
+-- ---- the call at a place is one single call of the definition
 -- the line l has come of line₀, and the state st is told what the settings say
 module _ (g : Settings) (line₀ b lens : List ℕ) (kind : Kind) (direction-good : ltb 3 (g .direction) ≡ false) (scale-good : badScale (g .s) (g .u) ≡ false)
-    (l : List ℕ) (as-long : length l ≡ length line₀) (st : State) (told : st .lookup ≡ lookupOf kind g line₀) (fine : Fine l b lens st) where
+    (l : List ℕ) (as-long : length l ≡ length line₀) (st : State) (told : st .lookup ≡ lookupOf kind g line₀) (placed : Placed l b lens st) where
+  abbrev fine₀ : Fine l b lens st
+  fine₀ = placed .fine
+
   abbrev ts : List (List ℕ)
   ts = subtables lens b
 
@@ -282,22 +211,22 @@ module _ (g : Settings) (line₀ b lens : List ℕ) (kind : Kind) (direction-goo
   -- what is made of what code was told is what is made of the settings
   told-as : {A : Type 0} (f : Lookup → Neighbour → List Slot → A) → f (st .lookup) (st .near) (slotsNow l st) ≡ f (lookupOf kind g line₀) (neighbourFor kind ss (st .index)) ss
   told-as f =
-      ap (λ (n : Neighbour). f (st .lookup) n (slotsNow l st)) (fine .near .near-is)
+      ap (λ (n : Neighbour). f (st .lookup) n (slotsNow l st)) (near-now placed)
       ∙ ap (λ (k : Lookup). f k (neighbourFor (k .kind) (slots (k .shape) l) (st .index)) (slots (k .shape) l)) told
       ∙ ap (λ (n : ℕ). f (lookupOf kind g line₀) (neighbourFor kind (slots (shapeWith (g .size) (n / g .size)) l) (st .index)) (slots (shapeWith (g .size) (n / g .size)) l)) (sym as-long)
 
   line-good : badLine (g .size) l ≡ false
-  line-good = sym (told-as (λ k n x. badLine (k .shape .size) l)) ∙ fine .whole .line-good
+  line-good = sym (told-as (λ k n x. badLine (k .shape .size) l)) ∙ fine₀ .whole .line-good
 
   slots-good : badSlots ss ≡ false
-  slots-good = sym (told-as (λ k n x. badSlots x)) ∙ fine .whole .slots-good
+  slots-good = sym (told-as (λ k n x. badSlots x)) ∙ fine₀ .whole .slots-good
 
   in-line : st .index < length ss
-  in-line = omega (arith, told-as (λ k n x. length x), length-slots (st .lookup .shape) l, fine .near .index-in)
+  in-line = omega (arith, told-as (λ k n x. length x), length-slots (st .lookup .shape) l, placed .index-in)
 
   subtable-good : goodFor kind T ≡ true
   subtable-good =
-      sym (told-as (λ k n x. goodFor (k .kind) T)) ∙ one-good (goodFor (st .lookup .kind)) lens b (st .subtable) (fine .good .subtable-in) (fine .good .all-good)
+      sym (told-as (λ k n x. goodFor (k .kind) T)) ∙ one-good (goodFor (st .lookup .kind)) lens b (st .subtable) (placed .subtable-in) (fine₀ .good .all-good)
 
   said-is : saidOn kind g ts l (placeOf st) ≡ saidNow l b lens st
   said-is =
@@ -308,59 +237,160 @@ module _ (g : Settings) (line₀ b lens : List ℕ) (kind : Kind) (direction-goo
   leaves-is : callAt kind g T ss (st .index) .leaves ss ≡ callNow T st .leaves (slotsNow l st)
   leaves-is = core-leaves g kind T ss (st .index) ∙ sym (told-as (λ k n x. callFor (k .kind) T (k .direction) (k .s) (k .u) (k .flag) (st .index) n .leaves x))
 
-  line-is : lineOn kind g ts l (placeOf st) ≡ lineOf l b lens st
-  unfolding lineOf
+  line-is : lineOn kind g ts l (placeOf st) ≡ lineCalled l b lens st
+  unfolding lineCalled
   line-is =
       ap₂ (λ (s : Said) (new : List Slot). lineAfter (g .size) s l new) said-is leaves-is
       ∙ ap (λ (z : ℕ). lineAfter z (saidNow l b lens st) l (callNow T st .leaves (slotsNow l st))) (sym (told-as (λ k n x. k .shape .size)))
 
-  count-is : count (g .size) l ≡ length (leftNow l b lens st)
-  count-is = sym (length-slots (shapeOf (g .size) l) l) ∙ sym (told-as (λ k n x. length x)) ∙ sym (left-length fine)
+  abbrev n : ℕ
+  n = count (g .size) l
 
-  stage-is : after (count (g .size) l) (length ts) (placeOf st) (saidOn kind g ts l (placeOf st)) ≡ stageOf (turnOf l b lens st .next)
-  unfolding turnOf
+  abbrev stage : State → Stage
+  stage = stageOf n (length lens)
+
+  in-count : st .index < n
+  in-count = omega (arith, in-line, length-slots (shapeOf (g .size) l) l)
+
+  stage-is : after n (length ts) (placeOf st) (saidOn kind g ts l (placeOf st)) ≡ stage (called l b lens st .next)
+  unfolding called
   stage-is =
-      ap (after (count (g .size) l) (length ts) (placeOf st)) said-is
-      ∙ ap₂ (λ (n c : ℕ). after n c (placeOf st) (saidNow l b lens st)) count-is (length-subtables lens b)
-      ∙ next-stage st _ (leftNow l b lens st) lens (saidNow l b lens st)
+      ap₂ (λ (c : ℕ) (s : Said). after n c (placeOf st) s) (length-subtables lens b) said-is
+      ∙ next-stage n (length lens) (st .start + getD lens (st .subtable) 0) st _ in-count (placed .subtable-in) (saidNow l b lens st)
 
-  records-are : records (turnOf l b lens st .records) ≡ map recordOf (hazardsOf (saidOn kind g ts l (placeOf st)))
-  unfolding turnOf
-  records-are = records-all (hazardsOf (saidNow l b lens st)) (is-fair fine .0) ∙ ap (λ (s : Said). map recordOf (hazardsOf s)) (sym said-is)
+  records-are : records (called l b lens st .records) ≡ map recordOf (hazardsOf (saidOn kind g ts l (placeOf st)))
+  unfolding called
+  records-are = records-all (hazardsOf (saidNow l b lens st)) (is-fair placed .0) ∙ ap (λ (s : Said). map recordOf (hazardsOf s)) (sym said-is)
 
-  -- the run from here is the records of this turn, and the run from the next
-  turn-is : (k : ℕ) → runIn kind g ts (suc k) l (stageOf st)
-      ≡ before (hazardsOf (saidOn kind g ts l (placeOf st))) (runIn kind g ts k (lineOf l b lens st) (stageOf (turnOf l b lens st .next)))
-  turn-is k =
-      ap (runIn kind g ts (suc k) l) (stage-goes st (fine .goes-on)) ∙ run-on kind g ts k l (placeOf st)
-      ∙ ap₂ (λ (m : List ℕ) (q : Stage). before (hazardsOf (saidOn kind g ts l (placeOf st))) (runIn kind g ts k m q)) line-is stage-is
+  -- the run from here is the records of this call, and the run from the next
+  call-is : (k : ℕ) → runIn kind g ts (suc k) l (goesOn (placeOf st))
+      ≡ before (hazardsOf (saidOn kind g ts l (placeOf st))) (runIn kind g ts k (lineCalled l b lens st) (stage (called l b lens st .next)))
+  call-is k = run-on kind g ts k l (placeOf st) ∙ ap₂ (λ (m : List ℕ) (q : Stage). before (hazardsOf (saidOn kind g ts l (placeOf st))) (runIn kind g ts k m q)) line-is stage-is
 
-  -- what a state is told doesn't change
-  told-next : turnOf l b lens st .next .lookup ≡ st .lookup
-  unfolding turnOf
-  told-next = kept-told lens (leftNow l b lens st) st _ (saidNow l b lens st)
+  few-hazards : length (hazardsOf (saidOn kind g ts l (placeOf st))) ≤ 2
+  few-hazards = omega (arith, ap (λ (s : Said). length (hazardsOf s)) said-is, is-fair placed .0)
 
-  proper-next : Proper (turnOf l b lens st .next .end)
-  unfolding turnOf
-  proper-next = next-proper lens (leftNow l b lens st) st _ (saidNow l b lens st)
+  told-next : called l b lens st .next .lookup ≡ st .lookup
+  unfolding called
+  told-next = kept-told _ st _ (saidNow l b lens st)
 
-  further : turnOf l b lens st .next .code ≡ 0
-      → st .index * length lens + st .subtable < turnOf l b lens st .next .index * length lens + turnOf l b lens st .next .subtable
-  unfolding turnOf
-  further e = next-further st _ (leftNow l b lens st) _ lens (fine .good .subtable-in) (saidNow l b lens st) (is-fair fine) e
+  proper-next : Proper (called l b lens st .next .end)
+  unfolding called
+  proper-next = next-proper _ st _ (saidNow l b lens st)
+
+  further : called l b lens st .next .code ≡ 0 → st .index * length lens + st .subtable < called l b lens st .next .index * length lens + called l b lens st .next .subtable
+  unfolding called
+  further e =
+      next-further n (length lens) _ st _ in-count (placed .subtable-in) (saidNow l b lens st)
+      (subst (λ (x : ℕ). Fair (st .index) x (saidNow l b lens st)) (told-as (λ k y x. length x) ∙ length-slots (shapeOf (g .size) l) l) (is-fair placed)) e
+
+-- ---- one turn: what isn't covered is passed over, and one call made
+-- what a turn comes to, of a run that has so many calls left: a list of hazards, and fewer calls
+pub record TurnRun (kind : Kind) (g : Settings) (b lens l : List ℕ) (st : State) (calls : ℕ) (t : Turned) (l′ : List ℕ) : Type 0 where
+  pub rest : ℕ
+  pub hazards : List Range
+  pub is-run : runIn kind g (subtables lens b) calls l (stageOf (count (g .size) l) (length lens) st)
+      ≡ before hazards (runIn kind g (subtables lens b) rest l′ (stageOf (count (g .size) l) (length lens) (t .next)))
+  pub recorded : records (t .records) ≡ map recordOf hazards
+  pub few-hazards : length hazards + rest * 2 ≤ calls * 2
+  pub fewer : t .next .code ≡ 0 → rest < calls
+  pub steps : t .next .code ≡ 0 → count (g .size) l * length lens ≤ rest + (t .next .index * length lens + t .next .subtable)
+  pub told : t .next .lookup ≡ st .lookup
+  pub proper : Proper (t .next .end)
+
+module _ (g : Settings) (line₀ b lens : List ℕ) (kind : Kind) (direction-good : ltb 3 (g .direction) ≡ false) (scale-good : badScale (g .s) (g .u) ≡ false)
+    (l : List ℕ) (as-long : length l ≡ length line₀) (st : State) (told : st .lookup ≡ lookupOf kind g line₀) (fine : Fine l b lens st) where
+  abbrev c : ℕ
+  c = length lens
+
+  abbrev n′ : ℕ
+  n′ = count (g .size) l
+
+  -- the slots by what code was told are those by the settings
+  told-line : {A : Type 0} (f : Lookup → List Slot → A) → f (st .lookup) (slotsNow l st) ≡ f (lookupOf kind g line₀) (lineSlots (g .size) l)
+  told-line f =
+      ap (λ (k : Lookup). f k (slots (k .shape) l)) told ∙ ap (λ (x : ℕ). f (lookupOf kind g line₀) (slots (shapeWith (g .size) (x / g .size)) l)) (sym as-long)
+
+  abbrev Comes : (calls : ℕ) (t : Turned) (l′ : List ℕ) → Type 0
+  Comes calls t l′ = TurnRun kind g b lens l st calls t l′
+
+  passing : (calls : ℕ) → n′ * c ≤ calls + (st .index * c + st .subtable) → (p : Place) → p ≡ placeNow l b lens st
+      → Passing g kind b lens l calls (st .index) (st .subtable) (st .attached) p
+  passing calls enough p e =
+      subst (Passing g kind b lens l calls (st .index) (st .subtable) (st .attached))
+      (sym (e ∙ told-line (λ k x. nextPlace x b lens (st .index) (st .subtable) (st .start))))
+      (passes g kind b lens l (fine .good .one) (length-subtables lens b) direction-good scale-good
+      (sym (told-line (λ k x. badLine (k .shape .size) l)) ∙ fine .whole .line-good) (sym (told-line (λ k x. badSlots x)) ∙ fine .whole .slots-good)
+      (sym (told-line (λ k x. every (goodFor (k .kind)) (subtables lens b))) ∙ fine .good .all-good)
+      (st .index) (st .subtable) (st .start) (fine .good .within) (fine .good .start-is) calls (st .attached) enough)
+
+  -- the call at the next covered place
+  module _ (i k start m : ℕ) (e : At i k start m ≡ placeNow l b lens st) where
+    abbrev here : State
+    here = movedTo l st i k start
+
+    abbrev ok : Placed l b lens here
+    ok = is-placed fine i k start m e
+
+    inside : i < n′
+    inside = in-count g line₀ b lens kind direction-good scale-good l as-long here told ok
+
+    before-end : i * c + k < n′ * c
+    before-end = let whole : i + 1 ≤ n′ = omega (arith, inside) in omega (arith, mul-le-mul-right c whole, suc-mul i c, ok .subtable-in)
+
+    at-place : (calls : ℕ) → n′ * c ≤ calls + (st .index * c + st .subtable) → (r : Passed g kind b lens l calls (st .index) (st .subtable) (st .attached) i k) → (q : ℕ) → r .rest ≡ q
+        → Comes calls (called l b lens here) (lineCalled l b lens here)
+    at-place calls enough r zero z = absurd (omega (arith, z, r .fewer, enough, before-end))
+    at-place calls enough r (suc q) z =
+        record {
+          rest = q;
+          hazards = hazardsOf (saidOn kind g (subtables lens b) l (placeOf here));
+          is-run =
+              ap (runIn kind g (subtables lens b) calls l) (stage-goes n′ c st (fine .goes-on)) ∙ r .same
+              ∙ ap (λ (x : ℕ). runIn kind g (subtables lens b) x l (goesOn (placeOf here))) z ∙ call-is g line₀ b lens kind direction-good scale-good l as-long here told ok q;
+          recorded = records-are g line₀ b lens kind direction-good scale-good l as-long here told ok;
+          few-hazards = omega (arith, few-hazards g line₀ b lens kind direction-good scale-good l as-long here told ok, r .not-more, z);
+          fewer = λ on. omega (arith, r .not-more, z);
+          steps = λ on. omega (arith, z, r .fewer, enough, further g line₀ b lens kind direction-good scale-good l as-long here told ok on);
+          told = told-next g line₀ b lens kind direction-good scale-good l as-long here told ok;
+          proper = proper-next g line₀ b lens kind direction-good scale-good l as-long here told ok;
+        }
+
+  turn-run : (calls : ℕ) → n′ * c ≤ calls + (st .index * c + st .subtable) → Comes calls (turnOf l b lens st) (lineOf l b lens st)
+  turn-run calls enough = by-place (placeNow l b lens st) refl
+    where
+      by-place : (p : Place) → p ≡ placeNow l b lens st → Comes calls (turnOf l b lens st) (lineOf l b lens st)
+      by-place Nowhere e =
+          rw (turn-is fine Nowhere e, line-turned fine Nowhere e)
+          (record {
+            rest = calls;
+            hazards = [];
+            is-run =
+                ap (runIn kind g (subtables lens b) calls l) (stage-goes n′ c st (fine .goes-on)) ∙ passing calls enough Nowhere e
+                ∙ sym (run-ended kind g (subtables lens b) calls l (st .attached));
+            recorded = refl;
+            few-hazards = omega arith;
+            fewer = λ z. absurd (suc-ne-zero _ z);
+            steps = λ z. absurd (suc-ne-zero _ z);
+            told = refl;
+            proper = tt;
+          })
+      by-place (At i k start m) e =
+          let r = passing calls enough (At i k start m) e in
+          rw (turn-is fine (At i k start m) e, line-turned fine (At i k start m) e) (at-place i k start m e calls enough r (r .rest) refl)
 
 -- ---- the loop
 -- what holds at each turn of a run that began: `all` is the whole of it
-pub record Going (g : Settings) (line₀ b lens : List ℕ) (list₀ : List HazardRecord) (kind : Kind) (left at : ℕ) (line : List ℕ) (list : List HazardRecord) (st : State) : Type 0 where
+pub record Going (g : Settings) (line₀ b lens : List ℕ) (list₀ : List HazardRecord) (kind : Kind) (calls at : ℕ) (line : List ℕ) (list : List HazardRecord) (st : State) : Type 0 where
   pub told : st .lookup ≡ lookupOf kind g line₀
   pub proper : Proper (st .end)
   pub can-go : Next line b lens st
-  pub steps : st .code ≡ 0 → count (g .size) line₀ * length lens ≤ left + (st .index * length lens + st .subtable)
-  pub space : st .code ≡ 0 → at + left * 2 ≤ length list₀
-  pub same-count : at + length (runIn kind g (subtables lens b) left line (stageOf st) .found) ≡ length (run kind g (subtables lens b) line₀ .found)
-  pub same-list : setAll list at (map recordOf (runIn kind g (subtables lens b) left line (stageOf st) .found)) ≡ setAll list₀ 0 (map recordOf (run kind g (subtables lens b) line₀ .found))
-  pub same-line : runIn kind g (subtables lens b) left line (stageOf st) .line ≡ run kind g (subtables lens b) line₀ .line
-  pub same-last : runIn kind g (subtables lens b) left line (stageOf st) .last ≡ run kind g (subtables lens b) line₀ .last
+  pub steps : st .code ≡ 0 → count (g .size) line₀ * length lens ≤ calls + (st .index * length lens + st .subtable)
+  pub space : st .code ≡ 0 → at + calls * 2 ≤ length list₀
+  pub same-count : at + length (runIn kind g (subtables lens b) calls line (stageOf (count (g .size) line₀) (length lens) st) .found) ≡ length (run kind g (subtables lens b) line₀ .found)
+  pub same-list : setAll list at (map recordOf (runIn kind g (subtables lens b) calls line (stageOf (count (g .size) line₀) (length lens) st) .found)) ≡ setAll list₀ 0 (map recordOf (run kind g (subtables lens b) line₀ .found))
+  pub same-line : runIn kind g (subtables lens b) calls line (stageOf (count (g .size) line₀) (length lens) st) .line ≡ run kind g (subtables lens b) line₀ .line
+  pub same-last : runIn kind g (subtables lens b) calls line (stageOf (count (g .size) line₀) (length lens) st) .last ≡ run kind g (subtables lens b) line₀ .last
 
 -- what holds of a run that didn't begin
 pub record Idle (line₀ : List ℕ) (list₀ : List HazardRecord) (st₀ : State) (at : ℕ) (line : List ℕ) (list : List HazardRecord) (st : State) : Type 0 where
@@ -369,18 +399,21 @@ pub record Idle (line₀ : List ℕ) (list₀ : List HazardRecord) (st₀ : Stat
   pub line-kept : line ≡ line₀
   pub list-kept : list ≡ list₀
 
+-- `left` turns are left at most, with `calls` calls
 pub record Loop (g : Settings) (line₀ b lens : List ℕ) (list₀ : List HazardRecord) : Type 0 where
   pub left : ℕ
+  pub calls : ℕ
   pub at : ℕ
   pub line : List ℕ
   pub list : List HazardRecord
   pub st : State
+  pub more-turns : st .code ≡ 0 → calls < left
   pub at-most : at ≤ length list₀
   pub line-len : length line ≡ length line₀
   pub list-len : length list ≡ length list₀
   pub bytes : AllBytes line
   pub idle : (begun line₀ b lens (length list₀) g .code ≡ 0 → ⊥) → Idle line₀ list₀ (begun line₀ b lens (length list₀) g) at line list st
-  pub going : begun line₀ b lens (length list₀) g .code ≡ 0 → (kind : Kind) → kindOf (g .kind) ≡ some kind → Going g line₀ b lens list₀ kind left at line list st
+  pub going : begun line₀ b lens (length list₀) g .code ≡ 0 → (kind : Kind) → kindOf (g .kind) ≡ some kind → Going g line₀ b lens list₀ kind calls at line list st
 
 module _ (g : Settings) (line₀ b lens : List ℕ) (list₀ : List HazardRecord) where
   abbrev st₀ : State
@@ -419,7 +452,7 @@ module _ (g : Settings) (line₀ b lens : List ℕ) (list₀ : List HazardRecord
     said-done : said₀ ≡ done
     said-done = as-begun said₀ (kindOf (g .kind)) began .0
 
-    its-kind : Known (kindOf (g .kind))
+    pub its-kind : Known (kindOf (g .kind))
     its-kind = as-begun said₀ (kindOf (g .kind)) began .1
 
     tests-clear : unless slot-tests done ≡ done
@@ -452,19 +485,23 @@ module _ (g : Settings) (line₀ b lens : List ℕ) (list₀ : List HazardRecord
             same-last = ap (λ (r : Run). r .last) whole-is;
           }
         where
-          whole-is : runIn kind g tables (n₀ * length tables) line₀ (stageOf st₀) ≡ all kind
+          whole-is : runIn kind g tables (n₀ * length tables) line₀ (stageOf n₀ (length lens) st₀) ≡ all kind
           whole-is =
               ap (runIn kind g tables (n₀ * length tables) line₀)
-              (ap stageOf first-is ∙ first-stage (lookupOf kind g line₀) (lineSlots (g .size) line₀) ∙ ap (λ (n : ℕ). comesTo n 0 false) (length-slots (shapeOf (g .size) line₀) line₀))
+              (ap (stageOf n₀ (length lens)) first-is
+              ∙ subst (λ (n : ℕ). stageOf n (length lens) (firstState (lookupOf kind g line₀) (lineSlots (g .size) line₀)) ≡ comesTo n 0 false) (length-slots (shapeOf (g .size) line₀) line₀)
+              (first-stage (lookupOf kind g line₀) (lineSlots (g .size) line₀) (length lens) (is-fit g line₀ b lens (length list₀) said-done .one)))
 
   module _ (line-fits : length line₀ < 2 ^ 64) (list-fits : length list₀ < 2 ^ 64) (line-bytes : AllBytes line₀) (sub-bytes : AllBytes b) (lens-fit : (k : ℕ) → getD lens k 0 < 2 ^ 64) where
     abbrev pub start : Loop g line₀ b lens list₀
     start = record {
-      left = n₀ * length tables;
+      left = n₀ * length tables + 1;
+      calls = n₀ * length tables;
       at = 0;
       line = line₀;
       list = list₀;
       st = st₀;
+      more-turns = λ e. omega arith;
       at-most = zero-le;
       line-len = refl;
       list-len = refl;
@@ -485,23 +522,26 @@ module _ (g : Settings) (line₀ b lens : List ℕ) (list₀ : List HazardRecord
     abbrev kind₀ : Kind
     kind₀ = its-kind began .kind
 
-    now-going : Going g line₀ b lens list₀ kind₀ (t .left) (t .at) (t .line) (t .list) (t .st)
+    pub now-going : Going g line₀ b lens list₀ kind₀ (t .calls) (t .at) (t .line) (t .list) (t .st)
     now-going = t .going began kind₀ (its-kind began .is)
 
     pub fine : Fine (t .line) b lens (t .st)
     fine = now-going .can-go h
 
     pub more : 0 < t .left
-    more =
-        let in-line : t .st .index < n₀ = omega (arith, fine .near .index-in, ap (λ (k : Lookup). k .shape .count) (now-going .told)) in
-        omega (arith, now-going .steps h, mul-le-mul-right (length lens) in-line, fine .good .subtable-in)
+    more = omega (arith, t .more-turns h)
 
-    -- it has at most two records
-    few-records : length (records (turnOf (t .line) b lens (t .st) .records)) ≤ 2
-    few-records = few (turnOf (t .line) b lens (t .st) .records)
+    -- what it comes to
+    pub turn-comes : (kind : Kind) → (now : Going g line₀ b lens list₀ kind (t .calls) (t .at) (t .line) (t .list) (t .st))
+        → TurnRun kind g b lens (t .line) (t .st) (t .calls) (turnOf (t .line) b lens (t .st)) (lineOf (t .line) b lens (t .st))
+    turn-comes kind now =
+        turn-run g line₀ b lens kind (direction-good₀ began) (scale-good₀ began) (t .line) (t .line-len) (t .st) (now .told) (now .can-go h) (t .calls)
+        (subst (λ (x : ℕ). x / g .size * length lens ≤ t .calls + (t .st .index * length lens + t .st .subtable)) (sym (t .line-len)) (now .steps h))
 
     pub enough : t .at + length (records (turnOf (t .line) b lens (t .st) .records)) ≤ length (t .list)
-    enough = omega (arith, few-records, now-going .space h, more, t .list-len)
+    enough =
+        let r = turn-comes kind₀ now-going in
+        omega (arith, ap length (r .recorded), length-map (r .hazards) recordOf, r .few-hazards, now-going .space h, t .list-len)
 
   module _ (t : Loop g line₀ b lens list₀) (k : ℕ) (e : t .left ≡ suc k) (h : t .st .code ≡ 0) (next-bytes : AllBytes (lineOf (t .line) b lens (t .st)))
       (next-can-go : Next (lineOf (t .line) b lens (t .st)) b lens (turnOf (t .line) b lens (t .st) .next)) where
@@ -514,77 +554,75 @@ module _ (g : Settings) (line₀ b lens : List ℕ) (list₀ : List HazardRecord
     abbrev line′ : List ℕ
     line′ = lineOf (t .line) b lens (t .st)
 
-    pub next-going : st₀ .code ≡ 0 → (kind : Kind) → kindOf (g .kind) ≡ some kind → Going g line₀ b lens list₀ kind k (t .at + length rs) line′ (setAll (t .list) (t .at) rs) (q .next)
-    next-going began kind is =
+    abbrev comes : TurnRun (kind₀ t h) g b lens (t .line) (t .st) (t .calls) q line′
+    comes = turn-comes t h (kind₀ t h) (now-going t h)
+
+    next-going : (kind : Kind) → Going g line₀ b lens list₀ kind (t .calls) (t .at) (t .line) (t .list) (t .st) → (r : TurnRun kind g b lens (t .line) (t .st) (t .calls) q line′)
+        → Going g line₀ b lens list₀ kind (r .rest) (t .at + length rs) line′ (setAll (t .list) (t .at) rs) (q .next)
+    next-going kind now r =
         record {
-          told = told-next g line₀ b lens kind dg sg (t .line) (t .line-len) (t .st) (now .told) ok ∙ now .told;
-          proper = proper-next g line₀ b lens kind dg sg (t .line) (t .line-len) (t .st) (now .told) ok;
+          told = r .told ∙ now .told;
+          proper = r .proper;
           can-go = next-can-go;
-          steps = λ z. omega (arith, e, now .steps h, further g line₀ b lens kind dg sg (t .line) (t .line-len) (t .st) (now .told) ok z);
-          space = λ z. omega (arith, e, now .space h, few-records t h);
+          steps = λ z. subst (λ (x : ℕ). x / g .size * length lens ≤ r .rest + (q .next .index * length lens + q .next .subtable)) (t .line-len) (r .steps z);
+          space = λ z. omega (arith, ap length (r .recorded), length-map hs recordOf, now .space h, r .few-hazards);
           same-count =
-              add-assoc (t .at) (length rs) (length (rest .found)) ∙ ap (λ (n : ℕ). t .at + (n + length (rest .found))) (ap length recs ∙ length-map hs recordOf)
+              add-assoc (t .at) (length rs) (length (rest .found)) ∙ ap (λ (n : ℕ). t .at + (n + length (rest .found))) (ap length (r .recorded) ∙ length-map hs recordOf)
               ∙ ap (λ (n : ℕ). t .at + n) (sym (length-append hs (rest .found))) ∙ ap (λ (x : Run). t .at + length (x .found)) (sym is-run) ∙ now .same-count;
           same-list =
               setAll-++ (t .list) (t .at) rs (map recordOf (rest .found))
-              ∙ ap (λ (x : List HazardRecord). setAll (t .list) (t .at) (x ++ map recordOf (rest .found))) recs
+              ∙ ap (λ (x : List HazardRecord). setAll (t .list) (t .at) (x ++ map recordOf (rest .found))) (r .recorded)
               ∙ ap (setAll (t .list) (t .at)) (sym (map-append hs (rest .found)))
               ∙ ap (λ (x : Run). setAll (t .list) (t .at) (map recordOf (x .found))) (sym is-run) ∙ now .same-list;
           same-line = ap (λ (x : Run). x .line) (sym is-run) ∙ now .same-line;
           same-last = ap (λ (x : Run). x .last) (sym is-run) ∙ now .same-last;
         }
       where
-        now : Going g line₀ b lens list₀ kind (t .left) (t .at) (t .line) (t .list) (t .st)
-        now = t .going began kind is
-
-        ok : Fine (t .line) b lens (t .st)
-        ok = now .can-go h
-
-        dg : ltb 3 (g .direction) ≡ false
-        dg = direction-good₀ began
-
-        sg : badScale (g .s) (g .u) ≡ false
-        sg = scale-good₀ began
-
         hs : List Range
-        hs = hazardsOf (saidOn kind g tables (t .line) (placeOf (t .st)))
+        hs = r .hazards
 
         rest : Run
-        rest = runIn kind g tables k line′ (stageOf (q .next))
+        rest = runIn kind g tables (r .rest) line′ (stageOf n₀ (length lens) (q .next))
 
-        recs : rs ≡ map recordOf hs
-        recs = records-are g line₀ b lens kind dg sg (t .line) (t .line-len) (t .st) (now .told) ok
+        is-run : runIn kind g tables (t .calls) (t .line) (stageOf n₀ (length lens) (t .st)) ≡ before hs rest
+        is-run =
+            subst (λ (x : ℕ). runIn kind g tables (t .calls) (t .line) (stageOf (x / g .size) (length lens) (t .st)) ≡ before hs (runIn kind g tables (r .rest) line′ (stageOf (x / g .size) (length lens) (q .next))))
+            (t .line-len) (r .is-run)
 
-        is-run : runIn kind g tables (t .left) (t .line) (stageOf (t .st)) ≡ before hs rest
-        is-run = ap (λ (n : ℕ). runIn kind g tables n (t .line) (stageOf (t .st))) e ∙ turn-is g line₀ b lens kind dg sg (t .line) (t .line-len) (t .st) (now .told) ok k
+    pub going-next : st₀ .code ≡ 0 → (kind : Kind) → kindOf (g .kind) ≡ some kind → Going g line₀ b lens list₀ kind (comes .rest) (t .at + length rs) line′ (setAll (t .list) (t .at) rs) (q .next)
+    going-next _ kind is =
+        subst (λ (x : Kind). Going g line₀ b lens list₀ x (comes .rest) (t .at + length rs) line′ (setAll (t .list) (t .at) rs) (q .next))
+        (only (kind₀ t h) kind (sym (its-kind (began t h) .is) ∙ is)) (next-going (kind₀ t h) (now-going t h) comes)
 
     abbrev pub next : Loop g line₀ b lens list₀
     next = record {
       left = k;
+      calls = comes .rest;
       at = t .at + length rs;
       line = line′;
       list = setAll (t .list) (t .at) rs;
       st = q .next;
+      more-turns = λ on. omega (arith, e, t .more-turns h, comes .fewer on);
       at-most = omega (arith, enough t h, t .list-len);
-      line-len = line-length (fine t h) ∙ t .line-len;
+      line-len = turn-length (fine t h) ∙ t .line-len;
       list-len = length-setAll (t .list) (t .at) rs ∙ t .list-len;
       bytes = next-bytes;
       idle = λ not. absurd (not (began t h));
-      going = next-going;
+      going = going-next;
     }
 
   -- ---- what it comes to
   -- once the state stops, the run of the definition is over
   module _ (t : Loop g line₀ b lens list₀) (f : t .st .code ≡ 0 → ⊥) where
-    stands : (kind : Kind) → runIn kind g tables (t .left) (t .line) (stageOf (t .st)) ≡ standing (t .line) (stageAt (t .st .end) (t .st))
-    stands kind = ap (λ (z : Bool). runIn kind g tables (t .left) (t .line) (stageBy z (t .st))) (ne-eqb (t .st .code) 0 f) ∙ run-over kind g tables (t .left) (t .line) (t .st .end) (t .st)
+    stands : (kind : Kind) → runIn kind g tables (t .calls) (t .line) (stageOf n₀ (length lens) (t .st)) ≡ standing (t .line) (stageAt (t .st .end) (t .st))
+    stands kind = ap (λ (z : Bool). runIn kind g tables (t .calls) (t .line) (stageBy n₀ (length lens) z (t .st))) (ne-eqb (t .st .code) 0 f) ∙ run-over kind g tables (t .calls) (t .line) (t .st .end) (t .st)
 
     -- of a run that began
     module _ (began : st₀ .code ≡ 0) where
       abbrev kind₁ : Kind
       kind₁ = its-kind began .kind
 
-      now₁ : Going g line₀ b lens list₀ kind₁ (t .left) (t .at) (t .line) (t .list) (t .st)
+      now₁ : Going g line₀ b lens list₀ kind₁ (t .calls) (t .at) (t .line) (t .list) (t .st)
       now₁ = t .going began kind₁ (its-kind began .is)
 
       count-same : t .at ≡ length (all kind₁ .found)
@@ -627,7 +665,7 @@ module _ (g : Settings) (line₀ b lens : List ℕ) (list₀ : List HazardRecord
   not-begun done e (some kind) is not = first-ended (ltb 0 (length (lineSlots (g .size) line₀))) refl not
     where
       first : Bool → State
-      first z = if z then goes 0 0 0 false (neighbourFor kind (lineSlots (g .size) line₀) 0) noMemory (lookupOf kind g line₀) else ended Done 0 0 0 false (Missing 0) noMemory (lookupOf kind g line₀)
+      first z = if z then goes 0 0 0 false (neighbourFor kind (lineSlots (g .size) line₀) 0) 0 noMemory (lookupOf kind g line₀) else ended Done 0 false noMemory (lookupOf kind g line₀)
 
       first-ended : (z : Bool) → ltb 0 (length (lineSlots (g .size) line₀)) ≡ z → (first z .code ≡ 0 → ⊥) → LookupCall g line₀ b lens list₀ (endingOf (first z) 0) line₀ list₀
       first-ended true f not = absurd (not refl)
@@ -656,4 +694,4 @@ module _ (g : Settings) (line₀ b lens : List ℕ) (list₀ : List HazardRecord
 
 -- a turn leaves the line as long as it was
 pub length-line : (line b lens : List ℕ) (st : State) → Fine line b lens st → length (lineOf line b lens st) ≡ length line
-length-line line b lens st ok = line-length ok
+length-line line b lens st ok = turn-length ok

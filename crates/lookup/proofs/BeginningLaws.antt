@@ -1,12 +1,12 @@
 -- Where a run begins, by all that is checked before: each way through the checks, and what holds once none refuses. Assumes nothing.
-use mathlib.Core.Path.{_≡_, refl, sym, ap, subst, _∙_}
+use mathlib.Core.Path.{_≡_, refl, sym, ap, _∙_}
 use mathlib.Core.Bool.{Bool, true, false, not, _||_}
 use mathlib.Core.List.{List, [], _∷_}
 use mathlib.Core.Option.{Option, some, none}
 use Prim.Native.Nat.{ℕ, _*_, _≤_, _<_}
 use native.Mathlib.Nat.{suc-ne-zero}
 use native.Mathlib.Omega.{arith}
-use borrow.Author.Tests.{eqb-true, le-ltb, lt-ltb, ltb-false, ltb-true, not-false}
+use borrow.Author.Tests.{eqb-true, le-ltb, lt-ltb, ltb-false, not-false}
 use lib.Dec.{eqb, ltb}
 use lib.ListN.{getD, getD-replicate, length, replicate}
 use Rattle.ints.specs.Choice.{if_then_else_}
@@ -21,7 +21,6 @@ use Rattle.slots.specs.declared.shape.Shape.{Shape}
 use Rattle.slots.proofs.LineLaws.{length-slots, shapely}
 use Rattle.answers.specs.Said.{applied, declined, done, refusalNumber, refused, Said, unless}
 use Rattle.answers.specs.declared.Neighbour.{Neighbour}
-use Rattle.answers.specs.declared.Neighbour.the-variants.{Missing}
 use Rattle.answers.specs.declared.Refusal.{Refusal}
 use Rattle.answers.specs.declared.Refusal.the-variants.{Line, Direction, Number, Slot as BadSlot, Index, Subtable, Endless}
 use Rattle.answers.proofs.TestLaws.{clear-first, clear-parts, go-on, refused-early}
@@ -55,10 +54,10 @@ use Rattle.lookup.proofs.SubtableLaws.{total-none}
 -- ---- where a run begins, by code's test of the line
 module _ (look : Lookup) (l : List ℕ) {m : Memory} (e : m ≡ noMemory) where
   pub first-on : 0 < look .shape .count → (near : Neighbour) → near ≡ neighbourFor (look .kind) (slots (look .shape) l) 0
-      → goes 0 0 0 false near m look ≡ firstState look (slots (look .shape) l)
+      → goes 0 0 0 false near 0 m look ≡ firstState look (slots (look .shape) l)
   first-on h near is = rw (length-slots (look .shape) l, lt-ltb 0 (look .shape .count) h, e, is)
 
-  pub first-end : look .shape .count ≤ 0 → ended Done 0 0 0 false (Missing 0) m look ≡ firstState look (slots (look .shape) l)
+  pub first-end : look .shape .count ≤ 0 → ended Done 0 false m look ≡ firstState look (slots (look .shape) l)
   first-end h = rw (length-slots (look .shape) l, le-ltb 0 (look .shape .count) h, e)
 
 -- ---- refusal 8, by code's tests
@@ -216,32 +215,34 @@ module _ (g : Settings) (l b lengths : List ℕ) (places : ℕ) where
     verdict-kind = typed (g .kind) (kindOf (g .kind)) (subtables lengths b) refl tables-good
 
     first-fine : (kind : Kind) → kindOf (g .kind) ≡ some kind → Next l b lengths (firstState (lookupOf kind g l) ss)
-    first-fine kind is = go (ltb 0 (length ss)) refl
+    first-fine kind is = go (ltb 0 (length ss))
       where
-        go : (t : Bool) → ltb 0 (length ss) ≡ t
-            → Next l b lengths (if t then goes 0 0 0 false (neighbourFor kind ss 0) noMemory (lookupOf kind g l) else ended Done 0 0 0 false (Missing 0) noMemory (lookupOf kind g l))
-        go true some-there on =
+        go : (t : Bool)
+            → Next l b lengths (if t then goes 0 0 0 false (neighbourFor kind ss 0) 0 noMemory (lookupOf kind g l) else ended Done 0 false noMemory (lookupOf kind g l))
+        go true on =
             record {
               goes-on = refl;
               scale = in-scale (g .s) (g .u) (number-good ss (g .direction) (badScale (g .s) (g .u)) (early-clear .1));
-              whole = record { line-good = early-clear .0; shape-is = refl; slots-good = slots-good };
-              near = record {
+              whole = record {
+                line-good = early-clear .0;
+                shape-is = refl;
                 fits = shapely (g .size) l (early-clear .0);
-                index-in = omega (arith, ltb-true 0 (length ss) some-there, length-slots (shapeOf (g .size) l) l);
-                near-is = refl;
+                slots-good = slots-good;
               };
+              near = record { not-past = omega arith; near-is = refl };
               good = record {
+                one = is-fit .one;
                 few = is-fit .few;
                 untils = refl;
                 founds = refl;
                 adds-up = is-fit .adds-up;
-                subtable-in = is-fit .one;
+                within = omega arith;
                 start-is = total-none lengths;
                 all-good = not-false _ (rw is at tables-good);
               };
               right = λ k h. right-first kind (subtable lengths b k) ss k (omega (arith, is-fit .few));
             }
-        go false nothing on = absurd (suc-ne-zero _ on)
+        go false on = absurd (suc-ne-zero _ on)
 
   -- whenever a run begins, all that a turn needs holds
   pub begun-fine : Next l b lengths begins-so

@@ -5,7 +5,9 @@ pub mod KeptMarks
 pub mod IdentityLaws
 pub mod NeighbourLaws
 pub mod SubtableLaws
+pub mod CoveredLaws
 pub mod CallLaws
+pub mod AnswerLaws
 pub mod FairLaws
 pub mod TurnLaws
 pub mod BeginningLaws

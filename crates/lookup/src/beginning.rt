@@ -85,6 +85,7 @@ fn first(line: &[u8], lookup: Lookup) -> State
             start: 0,
             attached: false,
             near: first_neighbour(line, shape, kind),
+            known: 0,
             memory: no_memory(),
             lookup: lookup,
         };
@@ -97,6 +98,7 @@ fn first(line: &[u8], lookup: Lookup) -> State
         start: 0,
         attached: false,
         near: Neighbour::Missing(0),
+        known: 0,
         memory: no_memory(),
         lookup: lookup,
     }
@@ -114,6 +116,7 @@ fn refused(end: End) -> State
         start: 0,
         attached: false,
         near: Neighbour::Missing(0),
+        known: 0,
         memory: no_memory(),
         lookup: Lookup {
             shape: Shape { size: 0, count: 0 },

@@ -1,33 +1,29 @@
-// One single call of a run.
+// One single call of a run, of a glyph that is covered.
 use crate::kinds::Kind;
 use crate::state::Memory;
 use crate::state::State;
 use answers::Answer;
-use answers::Hazards;
 use marks::attachment::apply_found;
 use slots::axis::Direction;
-use slots::fields::glyph;
 use slots::shape::Shape;
-use tables::coverage::Covered;
 use targets::mark_pos::Target;
-use targets::mark_pos::mark_index;
 use targets::place::Way;
+use targets::place::named;
 use targets::place::searched;
 use targets::search::Found;
-ghost use mathlib.Core.Option.{some};
 ghost use mathlib.Core.Path.{_≡_};
 ghost use Prim.Native.Nat.{_<_};
+ghost use lib.ListN.{getD, length};
 ghost use Rattle.slots.specs.Line.{slots};
 ghost use Rattle.tables.specs.declared.coverage.Covered.the-variants.{Index};
 ghost use Rattle.answers.specs.code.Effect.{MadeOn};
 ghost use Rattle.answers.specs.Said.{said};
 ghost use Rattle.targets.specs.Place.{searched as Place·searched};
 ghost use Rattle.targets.specs.code.Meant.{foundOf};
-ghost use Rattle.targets.specs.declared.mark_pos.Target.the-variants.{Base, Ligature};
 ghost use Rattle.targets.specs.declared.place.Way.the-variants.{Search};
 ghost use Rattle.marks.specs.Attachment.{markAttachment};
-ghost use Rattle.lookup.specs.code.Calls.{afterSearch, callNow, coverAt, foundAfter, Ready, remembered, searchNow};
-ghost use Rattle.lookup.specs.code.Calls.{Searches, slotsNow, Small, targetOf, untilAfter, withSearched};
+ghost use Rattle.lookup.specs.code.Calls.{callNow, Ready, remembered, Searches, slotsNow, Small, withSearched};
+ghost use Rattle.lookup.specs.code.Covered.{coverAt};
 ghost use Rattle.lookup.specs.code.Meant.{placeNumber};
 ghost use Rattle.lookup.specs.Subtables.{mostSubtables};
 
@@ -37,17 +33,10 @@ pub struct Called {
     pub memory: Memory,
 }
 
-// What a call that searches answered, and how far the search with its subtable has come.
-struct Sought {
-    answer: Answer,
-    until: u16,
-    found: u16,
-}
-
-// The single call that is next, with its subtable t. All that its public call refuses, but for refusal 7, has been
-// refused before.
-pub fn call(line: &mut [u8], t: &[u8], st: State) -> Called
-    requires { ⌜ Ready (now line) (now t) st ⌝ }
+// The single call that is next, with its subtable t, which covers the slot's glyph, as m. All that its public call
+// refuses, but for refusal 7, has been refused before.
+pub fn call(line: &mut [u8], t: &[u8], st: State, m: usize) -> Called
+    requires { ⌜ Ready (now line) (now t) st × (coverAt (now t) (slotsNow (now line) st) (st .index) ≡ Index m) ⌝ }
     ensures { λ r. ⌜ MadeOn (callNow (now (t .entry)) st) (slotsNow (now (line .entry)) st) (said (r .answer))
         (slotsNow (now (line .exit)) st)
         × (r .memory ≡ remembered (now (t .entry)) (slotsNow (now (line .entry)) st) st) ⌝ }
@@ -61,107 +50,78 @@ pub fn call(line: &mut [u8], t: &[u8], st: State) -> Called
     let memory = st.memory;
     match kind {
         Kind::Single => {
-            let answer = single::adjustment::apply(line, shape, t, d, l.s, l.u, i);
-            return Called {
-                answer: answer,
-                memory: memory,
-            };
+            let answer = single::adjustment::apply_covered(line, shape, t, d, l.s, l.u, i, m);
+            return unsearched(answer, memory);
         }
         Kind::Pair => {
-            let answer = pair::adjustment::apply(line, shape, t, d, l.s, l.u, i, near);
-            return Called {
-                answer: answer,
-                memory: memory,
-            };
+            let answer = pair::adjustment::apply_covered(line, shape, t, d, l.s, l.u, i, m, near);
+            return unsearched(answer, memory);
         }
         Kind::Cursive => {
-            let answer = cursive::attachment::apply(line, shape, t, d, l.s, l.u, i, near, l.flag);
-            return Called {
-                answer: answer,
-                memory: memory,
-            };
+            let answer = cursive::attachment::apply_covered(
+                line,
+                shape,
+                t,
+                d,
+                l.s,
+                l.u,
+                i,
+                m,
+                near,
+                l.flag,
+            );
+            return unsearched(answer, memory);
         }
         Kind::MarkMark => {
             let way = Way::Earlier(near);
-            let answer = marks::attachment::apply(line, shape, t, way, d, l.s, l.u, i);
-            return Called {
-                answer: answer,
-                memory: memory,
-            };
+            let place = named(line, shape, i, near);
+            let answer = apply_found(line, shape, t, way, d, l.s, l.u, i, m, place);
+            return unsearched(answer, memory);
         }
-        Kind::MarkBase => return base_call(line, t, st),
-        Kind::MarkLigature => return ligature_call(line, t, st),
+        Kind::MarkBase => {
+            return search_call(
+                line,
+                shape,
+                t,
+                Target::Base,
+                d,
+                l.s,
+                l.u,
+                i,
+                m,
+                memory,
+                st.subtable,
+            );
+        }
+        Kind::MarkLigature => {
+            return search_call(
+                line,
+                shape,
+                t,
+                Target::Ligature,
+                d,
+                l.s,
+                l.u,
+                i,
+                m,
+                memory,
+                st.subtable,
+            );
+        }
     }
 }
 
-// A mark to base. Two functions call `search_call`, so that it stands by itself and is lent no state.
-fn base_call(line: &mut [u8], t: &[u8], st: State) -> Called
-    requires { ⌜ Ready (now line) (now t) st × (targetOf (st .lookup .kind) ≡ some Base) ⌝ }
-    ensures { λ r. ⌜ MadeOn (searchNow Base (now (t .entry)) st) (slotsNow (now (line .entry)) st) (said (r .answer))
-        (slotsNow (now (line .exit)) st)
-        × (r .memory ≡ afterSearch Base (now (t .entry)) (slotsNow (now (line .entry)) st) st) ⌝ }
+// A call that searches for nothing remembers what was.
+fn unsearched(answer: Answer, memory: Memory) -> Called
+    ensures { λ r. ⌜ (r .answer ≡ answer) × (r .memory ≡ memory) ⌝ }
 {
-    let l = st.lookup;
-    let shape = l.shape;
-    let d = l.direction;
-    let memory = st.memory;
-    let until = memory.until;
-    let found = memory.found;
-    let k = st.subtable;
-    let sought = search_call(
-        line,
-        shape,
-        t,
-        Target::Base,
-        d,
-        l.s,
-        l.u,
-        st.index,
-        until[k],
-        found[k],
-    );
-    let answer = sought.answer;
     Called {
         answer: answer,
-        memory: remember(memory, k, sought.until, sought.found),
+        memory: memory,
     }
 }
 
-// A mark to ligature.
-fn ligature_call(line: &mut [u8], t: &[u8], st: State) -> Called
-    requires { ⌜ Ready (now line) (now t) st × (targetOf (st .lookup .kind) ≡ some Ligature) ⌝ }
-    ensures { λ r. ⌜ MadeOn (searchNow Ligature (now (t .entry)) st) (slotsNow (now (line .entry)) st) (said (r .answer))
-        (slotsNow (now (line .exit)) st)
-        × (r .memory ≡ afterSearch Ligature (now (t .entry)) (slotsNow (now (line .entry)) st) st) ⌝ }
-{
-    let l = st.lookup;
-    let shape = l.shape;
-    let d = l.direction;
-    let memory = st.memory;
-    let until = memory.until;
-    let found = memory.found;
-    let k = st.subtable;
-    let sought = search_call(
-        line,
-        shape,
-        t,
-        Target::Ligature,
-        d,
-        l.s,
-        l.u,
-        st.index,
-        until[k],
-        found[k],
-    );
-    let answer = sought.answer;
-    Called {
-        answer: answer,
-        memory: remember(memory, k, sought.until, sought.found),
-    }
-}
-
-// A call that searches for what the mark goes on: only a covered mark makes the search. It had come to slot `until` with
-// this subtable, and found `found`.
+// A call that searches for what the mark goes on, with subtable k: the search goes on from where it had come with that.
 fn search_call(
     line: &mut [u8],
     shape: Shape,
@@ -171,67 +131,33 @@ fn search_call(
     s: u32,
     u: u32,
     i: usize,
-    until: u16,
-    found: u16,
-) -> Sought
-    requires { ⌜ Searches target shape (now line) (now t) s u i until found ⌝ }
-    ensures { λ r. ⌜ MadeOn (markAttachment (Search target) (now (t .entry)) d s u i) (slots shape (now (line .entry)))
-        (said (r .answer)) (slots shape (now (line .exit)))
-        × (r .until ≡ untilAfter (coverAt (now (t .entry)) (slots shape (now (line .entry))) i) until i)
-        × (r .found ≡ foundAfter (coverAt (now (t .entry)) (slots shape (now (line .entry))) i) found
-        (Place·searched target (now (t .entry)) (slots shape (now (line .entry))) i)) ⌝ }
-{
-    match mark_index(t, glyph(line, shape, i)) {
-        Covered::Not => {
-            return Sought {
-                answer: Answer::Declined {
-                    hazards: Hazards::None,
-                },
-                until: until,
-                found: found,
-            };
-        }
-        Covered::Index(m) => return found_call(line, shape, t, target, d, s, u, i, until, found, m),
-    }
-}
-
-// The mark is covered, as m.
-fn found_call(
-    line: &mut [u8],
-    shape: Shape,
-    t: &[u8],
-    target: Target,
-    d: Direction,
-    s: u32,
-    u: u32,
-    i: usize,
-    until: u16,
-    found: u16,
     m: usize,
-) -> Sought
-    requires { ⌜ Searches target shape (now line) (now t) s u i until found
-        × (coverAt (now t) (slots shape (now line)) i ≡ Index m) ⌝ }
+    memory: Memory,
+    k: usize,
+) -> Called
+    requires { ⌜ Searches target shape (now line) (now t) s u i (getD (memory .until) k 0) (getD (memory .found) k 0) ⌝ }
+    requires { ⌜ (k < mostSubtables) × (coverAt (now t) (slots shape (now line)) i ≡ Index m) ⌝ }
     ensures { λ r. ⌜ MadeOn (markAttachment (Search target) (now (t .entry)) d s u i) (slots shape (now (line .entry)))
         (said (r .answer)) (slots shape (now (line .exit)))
-        × (r .until ≡ untilAfter (coverAt (now (t .entry)) (slots shape (now (line .entry))) i) until i)
-        × (r .found ≡ foundAfter (coverAt (now (t .entry)) (slots shape (now (line .entry))) i) found
-        (Place·searched target (now (t .entry)) (slots shape (now (line .entry))) i)) ⌝ }
+        × (r .memory ≡ withSearched memory k i
+        (placeNumber (Place·searched target (now (t .entry)) (slots shape (now (line .entry))) i))) ⌝ }
 {
+    let until = memory.until;
+    let found = memory.found;
     let place = searched(
         line,
         shape,
         t,
         target,
         i,
-        until as usize,
-        found_of(found as usize),
+        until[k] as usize,
+        found_of(found[k] as usize),
     );
     let number = number_of(place);
-    let answer = apply_found(line, shape, t, target, d, s, u, i, m, place);
-    Sought {
+    let answer = apply_found(line, shape, t, Way::Search(target), d, s, u, i, m, place);
+    Called {
         answer: answer,
-        until: i as u16,
-        found: number as u16,
+        memory: remember(memory, k, i as u16, number as u16),
     }
 }
 

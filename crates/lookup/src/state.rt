@@ -48,8 +48,9 @@ pub enum End {
     Unfit,
 }
 
-// Where a run stands: the next single call is that of slot `index` with subtable `subtable`, which starts at byte
-// `start`. `near` is the slot's neighbour. Once `code` is not 0 the run has ended.
+// Where a run stands: slot `index` with subtable `subtable` is next, which starts at byte `start`; behind the last
+// subtable comes the next slot. `near` is the neighbour of slot `known`, which isn't past `index`: it is moved on only
+// for a slot that a call is made for. Once `code` is not 0 the run has ended.
 pub struct State {
     pub code: u32,
     pub end: End,
@@ -58,6 +59,7 @@ pub struct State {
     pub start: usize,
     pub attached: bool,
     pub near: Neighbour,
+    pub known: usize,
     pub memory: Memory,
     pub lookup: Lookup,
 }

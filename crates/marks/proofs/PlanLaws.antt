@@ -13,14 +13,17 @@ use Rattle.targets.specs.Place.{placeFor}
 use Rattle.targets.specs.declared.place.Way.{Way}
 use Rattle.marks.specs.Plan.{stop, planOf, afterCovered, afterPlace}
 
-module _ (way : Way) (a : Axis) (t : List ℕ) (ss : List Slot) (idx g : ℕ) (read : g ≡ slot ss idx .glyph) (c : Covered) (is : c ≡ markIndex t g) where
-  by-cover : planOf way a t ss idx ≡ afterCovered way a t ss idx c
+-- the mark's index, by the glyph that code read, the index that it found, and what it was told of that
+pub index-is : (t : List ℕ) (ss : List Slot) (idx : ℕ) {g : ℕ} {was is : Covered} → g ≡ slot ss idx .glyph → was ≡ markIndex t g → was ≡ is
+    → markIndex t (slot ss idx .glyph) ≡ is
+index-is t ss idx read found told = sym (found ∙ ap (markIndex t) read) ∙ told
+
+-- a mark that isn't covered, and one that is
+module _ (way : Way) (a : Axis) (t : List ℕ) (ss : List Slot) (idx : ℕ) where
+  pub plan-uncovered : markIndex t (slot ss idx .glyph) ≡ Not → stop [] ≡ planOf way a t ss idx
   unfolding planOf
-  by-cover = ap (afterCovered way a t ss idx) (sym (is ∙ ap (markIndex t) read))
+  plan-uncovered e = sym (ap (afterCovered way a t ss idx) e)
 
-  pub plan-uncovered : c ≡ Not → stop [] ≡ planOf way a t ss idx
-  plan-uncovered e = sym (by-cover ∙ ap (afterCovered way a t ss idx) e)
-
-  -- a mark that is covered
-  pub plan-covered : (m : ℕ) → c ≡ Index m → {p : Option ℕ} → p ≡ placeFor way t ss idx → afterPlace way a t ss idx m p ≡ planOf way a t ss idx
-  plan-covered m e is-p = ap (afterPlace way a t ss idx m) is-p ∙ sym (by-cover ∙ ap (afterCovered way a t ss idx) e)
+  pub plan-covered : (m : ℕ) → markIndex t (slot ss idx .glyph) ≡ Index m → {p : Option ℕ} → p ≡ placeFor way t ss idx → afterPlace way a t ss idx m p ≡ planOf way a t ss idx
+  unfolding planOf
+  plan-covered m e is-p = ap (afterPlace way a t ss idx m) is-p ∙ sym (ap (afterCovered way a t ss idx) e)

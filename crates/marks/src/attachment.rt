@@ -1,7 +1,6 @@
 // Hanging a mark on a slot (`attach_mark`), and the core.
 use crate::plan::Plan;
 use crate::plan::after_place;
-use crate::plan::plan_of;
 use answers::Answer;
 use answers::Hazards;
 use answers::Refusal;
@@ -20,8 +19,10 @@ use slots::layout::MARK_TYPE;
 use slots::shape::Shape;
 use tables::anchor::Point;
 use tables::anchor::coordinate_on;
-use targets::mark_pos::Target;
+use tables::coverage::Covered;
+use targets::mark_pos::mark_index;
 use targets::place::Way;
+use targets::place::place_for;
 use targets::search::Found;
 ghost use mathlib.Core.Bool.{true};
 ghost use mathlib.Core.List.{[], _∷_};
@@ -38,7 +39,6 @@ ghost use Rattle.answers.specs.Said.{applied, unsafeToBreak, said};
 ghost use Rattle.targets.specs.MarkPos.{markIndex, marksGood};
 ghost use Rattle.targets.specs.Place.{placeFor};
 ghost use Rattle.targets.specs.code.Meant.{Before, foundOf, WayBefore};
-ghost use Rattle.targets.specs.declared.place.Way.the-variants.{Search};
 ghost use Rattle.marks.specs.Attachment.{markAttachment, anchorDelta, markAttached, planned};
 ghost use Rattle.marks.specs.Plan.{planSaid};
 ghost use Rattle.marks.specs.code.Meant.{InReach, meant, Sound};
@@ -62,16 +62,23 @@ pub fn apply(
     ensures { λ r. ⌜ MadeOn (markAttachment way (now (t .entry)) d s u idx)
         (slots shape (now (line .entry))) (said r) (slots shape (now (line .exit))) ⌝ }
 {
-    let plan = plan_of(line, shape, t, way, slots::axis::cross_axis(d), idx);
-    carry_out(line, shape, d, s, u, idx, plan)
+    match mark_index(t, slots::fields::glyph(line, shape, idx)) {
+        Covered::Not => Answer::Declined {
+            hazards: Hazards::None,
+        },
+        Covered::Index(m) => {
+            let place = place_for(line, shape, t, way, idx);
+            apply_found(line, shape, t, way, d, s, u, idx, m, place)
+        }
+    }
 }
 
-// The same of a mark that is known to be covered, as m, and of which it is known what the search finds.
+// The same of a mark that is known to be covered, as m, and of which it is known what it goes on.
 pub fn apply_found(
     line: &mut [u8],
     shape: Shape,
     t: &[u8],
-    target: Target,
+    way: Way,
     d: Direction,
     s: u32,
     u: u32,
@@ -81,12 +88,12 @@ pub fn apply_found(
 ) -> Answer
     requires { ⌜ Inside shape (now line) idx × Before idx place × InScale s u × (marksGood (now t) ≡ true)
         × (markIndex (now t) (slot (slots shape (now line)) idx .glyph) ≡ Index m)
-        × (foundOf place ≡ placeFor (Search target) (now t) (slots shape (now line)) idx) ⌝ }
-    ensures { λ r. ⌜ MadeOn (markAttachment (Search target) (now (t .entry)) d s u idx)
+        × (foundOf place ≡ placeFor way (now t) (slots shape (now line)) idx) ⌝ }
+    ensures { λ r. ⌜ MadeOn (markAttachment way (now (t .entry)) d s u idx)
         (slots shape (now (line .entry))) (said r) (slots shape (now (line .exit))) ⌝ }
 {
     let across = slots::axis::cross_axis(d);
-    let plan = after_place(line, shape, t, Way::Search(target), across, idx, m, place);
+    let plan = after_place(line, shape, t, way, across, idx, m, place);
     carry_out(line, shape, d, s, u, idx, plan)
 }
 

@@ -11,9 +11,7 @@ use tables::coverage::Covered;
 use targets::mark_pos::BASE_COVERAGE_OFFSET;
 use targets::mark_pos::Target;
 use targets::mark_pos::base_index;
-use targets::mark_pos::mark_index;
 use targets::place::Way;
-use targets::place::place_for;
 use targets::search::Found;
 use targets::walk::Walk;
 use targets::walk::cross_offset;
@@ -26,9 +24,9 @@ ghost use Rattle.slots.specs.Line.{slots};
 ghost use Rattle.tables.specs.code.Meant.{Near16, pointOf};
 ghost use Rattle.targets.specs.MarkPos.{marksGood};
 ghost use Rattle.targets.specs.Place.{missed as Place·missed};
-ghost use Rattle.targets.specs.code.Meant.{Before, foundOf, walkOf, WayBefore};
+ghost use Rattle.targets.specs.code.Meant.{Before, foundOf, walkOf};
 ghost use Rattle.targets.specs.declared.place.Way.the-variants.{Earlier};
-ghost use Rattle.marks.specs.Plan.{planOf, afterAnchors, afterFound, afterPlace, afterWalk};
+ghost use Rattle.marks.specs.Plan.{afterAnchors, afterFound, afterPlace, afterWalk};
 ghost use Rattle.marks.specs.Plan.{laidOut, stop, uncovered as Plan·uncovered};
 ghost use Rattle.marks.specs.code.Meant.{anchorsOf, AnchorsNear, meant, Sound};
 
@@ -49,29 +47,8 @@ pub enum Plan {
     },
 }
 
-// What is to be done for the mark in slot idx; a is the cross axis. The tests stand in the source's order, each in its
-// own function below or in `targets`.
-pub fn plan_of(line: &[u8], shape: Shape, t: &[u8], way: Way, a: Axis, idx: usize) -> Plan
-    requires { ⌜ Inside shape (now line) idx × WayBefore idx way × (marksGood (now t) ≡ true) ⌝ }
-    ensures { λ r. ⌜ (meant idx r ≡ planOf way a (now (t .entry)) (slots shape (now (line .entry))) idx)
-        × Sound idx r ⌝ }
-{
-    match mark_index(t, slots::fields::glyph(line, shape, idx)) {
-        Covered::Not => Plan::Stop,
-        Covered::Index(m) => after_place(
-            line,
-            shape,
-            t,
-            way,
-            a,
-            idx,
-            m,
-            place_for(line, shape, t, way, idx),
-        ),
-    }
-}
-
-// The mark is covered: there is a slot that it may go on, or none.
+// What is to be done for the mark in slot idx, which is covered: there is a slot that it may go on, or none; a is the
+// cross axis. The tests stand in the source's order, each in its own function below or in `targets`.
 pub fn after_place(
     line: &[u8],
     shape: Shape,

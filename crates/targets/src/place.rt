@@ -59,7 +59,7 @@ pub fn searched(
 }
 
 // The slot that the caller names, if the mark may be stacked on it.
-fn named(line: &[u8], shape: Shape, idx: usize, earlier: Neighbour) -> Found
+pub fn named(line: &[u8], shape: Shape, idx: usize, earlier: Neighbour) -> Found
     requires { ⌜ Inside shape (now line) idx × NeighbourBefore idx earlier ⌝ }
     ensures { λ r. ⌜ (foundOf r ≡ Place·named (slots shape (now (line .entry))) idx earlier) × Before idx r ⌝ }
 {

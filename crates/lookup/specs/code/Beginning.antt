@@ -36,7 +36,7 @@ abbrev pub noLookup : Lookup
 noLookup = record { shape = shapeWith 0 0; kind = Single; direction = LeftToRight; flag = 0; s = 0; u = 0 }
 
 abbrev pub notBegun : End → State
-notBegun end = ended end 0 0 0 false (Missing 0) noMemory noLookup
+notBegun end = ended end 0 false noMemory noLookup
 
 -- the end of a run that is refused with this number: 1, 2, 3, 4, 8 or 6
 abbrev pub endOf : ℕ → End
@@ -63,8 +63,8 @@ lookupOf kind g l =
 -- a run begins at slot 0, or is at once at the line's end
 abbrev pub firstState : Lookup → List Slot → State
 firstState l ss =
-    if ltb 0 (length ss) then goes 0 0 0 false (neighbourFor (l .kind) ss 0) noMemory l
-    else ended Done 0 0 0 false (Missing 0) noMemory l
+    if ltb 0 (length ss) then goes 0 0 0 false (neighbourFor (l .kind) ss 0) 0 noMemory l
+    else ended Done 0 false noMemory l
 
 -- by what was said of it before it begins
 abbrev pub begunAs : Said → Option Kind → Settings → List ℕ → State

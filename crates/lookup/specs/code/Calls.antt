@@ -8,18 +8,16 @@ use lib.ListN.{getD, set}
 use Rattle.ints.specs.Limits.{whole16}
 use Rattle.ints.specs.code.Scale.{InScale}
 use Rattle.slots.specs.Slot.{Slot}
-use Rattle.slots.specs.Line.{slot, slots}
+use Rattle.slots.specs.Line.{slots}
 use Rattle.slots.specs.code.Shape.{HasNext, Inside}
 use Rattle.slots.specs.declared.axis.Direction.{Direction}
 use Rattle.slots.specs.declared.shape.Shape.{Shape}
-use Rattle.tables.specs.declared.coverage.Covered.{Covered}
-use Rattle.tables.specs.declared.coverage.Covered.the-variants.{Index, Not}
 use Rattle.answers.specs.Outcome.{Call}
 use Rattle.answers.specs.declared.Neighbour.{Neighbour}
 use Rattle.single.specs.SinglePos.{singleAdjustment}
 use Rattle.pair.specs.Adjustment.{pairAdjustment}
 use Rattle.cursive.specs.Attachment.{cursiveAttachment}
-use Rattle.targets.specs.MarkPos.{markIndex, marksGood}
+use Rattle.targets.specs.MarkPos.{marksGood}
 use Rattle.targets.specs.Place.{searched}
 use Rattle.targets.specs.declared.mark_pos.Target.{Target}
 use Rattle.targets.specs.declared.mark_pos.Target.the-variants.{Base, Ligature}
@@ -71,13 +69,6 @@ abbrev pub searchNow : Target → List ℕ → State → Call
 searchNow target t st =
     markAttachment (Search target) t (st .lookup .direction) (st .lookup .s) (st .lookup .u) (st .index)
 
--- the mark's coverage index
-abbrev pub coverAt : List ℕ → List Slot → ℕ → Covered
-coverAt t ss i = markIndex t (slot ss i .glyph)
-
-abbrev pub coverNow : List ℕ → List Slot → State → Covered
-coverNow t ss st = coverAt t ss (st .index)
-
 -- what a search with the subtable t finds before slot n, if the kind makes one
 abbrev pub finds : Option Target → List ℕ → List Slot → ℕ → Option ℕ
 finds (some target) t ss n = searched target t ss n
@@ -101,24 +92,10 @@ abbrev pub Small : Found → Type 0
 Small (Slot′ i) = HasNext i
 Small Nowhere = Unit {0}
 
--- a covered mark makes a search: how far the search with its subtable has come then
-abbrev pub untilAfter : Covered → (until i : ℕ) → ℕ
-untilAfter (Index m) until i = i
-untilAfter Not until i = until
-
--- and what it found
-abbrev pub foundAfter : Covered → (found : ℕ) → Option ℕ → ℕ
-foundAfter (Index m) found place = placeNumber place
-foundAfter Not found place = found
-
--- how far the searches have come after the call
-abbrev pub bySearch : Covered → Target → List ℕ → List Slot → State → Memory
-bySearch c target t ss st =
-    withSearched (st .memory) (st .subtable) (untilAfter c (getD (st .memory .until) (st .subtable) 0) (st .index))
-    (foundAfter c (getD (st .memory .found) (st .subtable) 0) (searched target t ss (st .index)))
-
+-- how far the searches have come after the call, whose mark is covered
 abbrev pub afterSearch : Target → List ℕ → List Slot → State → Memory
-afterSearch target t ss st = bySearch (coverNow t ss st) target t ss st
+afterSearch target t ss st =
+    withSearched (st .memory) (st .subtable) (st .index) (placeNumber (searched target t ss (st .index)))
 
 abbrev pub byTarget : Option Target → List ℕ → List Slot → State → Memory
 byTarget (some target) t ss st = afterSearch target t ss st

@@ -1,22 +1,61 @@
--- `lookup::turns::turn` meets its contract: the call is made, and each answer leads on as it should. Assumes nothing.
-use mathlib.Core.Bool.{Bool}
-use mathlib.Core.Path.{refl, sym, ap, _∙_}
-use Rattle.answers.specs.Said.{said}
-use Rattle.lookup.specs.code.Calls.{slotsNow}
-use Rattle.lookup.specs.code.Run.{arrived}
-use Rattle.lookup.proofs.TurnLaws.{near′, not-before, part-inside, ready, turned-so}
+-- `lookup::turns::turn` meets its contract: at the next covered place the call is made, and the answer leads on as it should. Assumes nothing.
+use mathlib.Core.Path.{sym, ap, _∙_}
+use Rattle.records.specs.declared.Records.the-variants.{None}
+use Rattle.lookup.specs.declared.state.State.{State}
+use Rattle.lookup.proofs.TurnLaws.{below, call-ready, can-pass, ends-so, few-here, few-tables, is-placed, not-before, part-inside, turned-so}
 use borrow.Author.Needs.{needs}
 use Rattle.lookup.proofs.turns.turn.Statement.{statement}
 use Rattle.lookup.proofs.turns.turn.Tie as tie
 
+next-covered-requires : tie.Need-next-covered-requires
+next-covered-requires c κs = can-pass (c .before .before .before .before .before .before .pre)
+
+enum-told : tie.Need-enum-told
+enum-told c = search needs
+
+over-requires : tie.Need-over-requires
+over-requires c κs = search needs
+
+same-length : tie.Need-same-length
+same-length c = search needs
+
+returns : tie.Need-returns
+returns c =
+    let p = c .before .before .before in
+    let e = p .before .before .before .before .before .before .before in
+    ends-so (e .pre) (sym (c .before .enum-told .given .1) ∙ p .next-covered .ensures) _ (ap (λ (q : State). record { records = None; next = q }) (c .over .ensures))
+
+enum-known-index : tie.Need-enum-known-index
+enum-known-index c = search needs
+
+moved-requires : tie.Need-moved-requires
+moved-requires c κs =
+    let p = c .before .before .before .before in
+    let e = p .before .before .before .before .before .before .before in
+    let is = sym (c .before .before .index .given .1) ∙ p .next-covered .ensures in
+    (record { fits = e .pre .whole .fits; below = below (e .pre) _ _ _ _ is }, not-before (e .pre) _ _ _ _ is, e .pre .near .near-is)
+
 mul-end : tie.Need-mul-end
-mul-end c = search needs
+mul-end c =
+    let p = c .before .before .before .before .before in
+    let e = p .before .before .before .before .before .before .before in
+    let few = few-here (e .pre) _ _ _ _ (sym (c .before .before .before .index .given .1) ∙ p .next-covered .ensures) in
+    search needs
 
 shared-slice-read-end : tie.Need-shared-slice-read-end
-shared-slice-read-end c = search needs
+shared-slice-read-end c =
+    let p = c .before .before .before .before .before .before in
+    let e = p .before .before .before .before .before .before .before in
+    let is = sym (c .before .before .before .before .index .given .1) ∙ p .next-covered .ensures in
+    is-placed (e .pre) _ _ _ _ is .subtable-in
 
 add-end : tie.Need-add-end
-add-end c = let inside = part-inside (c .before .before .before .before .pre) in search needs
+add-end c =
+    let p = c .before .before .before .before .before .before in
+    let e = p .before .before .before .before .before .before .before in
+    let is = sym (c .before .before .before .before .index .given .1) ∙ p .next-covered .ensures in
+    let inside = part-inside (is-placed (e .pre) _ _ _ _ is) in
+    search needs
 
 sub-call : tie.Need-sub-call
 sub-call c = search needs
@@ -25,90 +64,51 @@ part-call-start : tie.Need-part-call-start
 part-call-start c = search needs
 
 part-call-end : tie.Need-part-call-end
-part-call-end c = part-inside (c .before .before .before .before .before .pre)
+part-call-end c =
+    let p = c .before .before .before .before .before .before .before in
+    let e = p .before .before .before .before .before .before .before in
+    let is = sym (c .before .before .before .before .before .index .given .1) ∙ p .next-covered .ensures in
+    part-inside (is-placed (e .pre) _ _ _ _ is)
 
 call-requires : tie.Need-call-requires
-call-requires c κs = ready (c .before .before .before .before .before .before .pre)
+call-requires c κs =
+    let p = c .before .before .before .before .before .before .before .before in
+    let e = p .before .before .before .before .before .before .before in
+    let is = sym (c .before .before .before .before .before .before .index .given .1) ∙ p .next-covered .ensures in
+    call-ready (e .pre) _ _ _ _ is _ (c .before .before .before .moved .ensures)
 
-enum-known-answer : tie.Need-enum-known-answer
-enum-known-answer c = search needs
-
-either-requires : tie.Need-either-requires
-either-requires c κs = search needs
-
-records-of-requires : tie.Need-records-of-requires
-records-of-requires c κs = search needs
-
-arrive-requires : tie.Need-arrive-requires
-arrive-requires c κs =
-    let m = c .before .before .before .before .before .before in
-    let k = m .before .before .before in
-    let s = m .before .before .before .before .before .before .before .before .before in
-    let e = s .before in
-    let is = c .before .before .before .before .answer .given in
-    (near′ (e .pre) (k .call .last .0) (λ n. s .slice-known .given n .fits) (λ n. m .before .slice-known2 .given n .fits) (k .call .kept .0) (k .call .ensures .0), not-before (e .pre) (k .call .last .0) (λ n. s .slice-known .given n .fits) (λ n. m .before .slice-known2 .given n .fits) (k .call .kept .0) (k .call .ensures .0) _ _ _ (sym (ap said (is .1))))
-
-same-length : tie.Need-same-length
-same-length c = search needs
-
-returns : tie.Need-returns
-returns c =
-    let m = c .before .before .before .before .before .before .before in
-    let k = m .before .before .before in
-    let s = m .before .before .before .before .before .before .before .before .before in
-    let e = s .before in
-    let is = c .before .before .before .before .before .answer .given in
-    turned-so (e .pre) (k .call .last .0) (λ n. s .slice-known .given n .fits) (λ n. m .before .slice-known2 .given n .fits) (k .call .kept .0) (k .call .ensures .0) _ (sym (ap said (is .1))) _ (c .before .before .records-of .ensures) _ (k .call .ensures .1) _
-    (c .arrive .ensures ∙ ap (λ (x : Bool). arrived (slotsNow (k .call .last .0) (e .args .st)) (e .args .st) (k .call .result .memory) (is .0 .0) x) (c .before .before .before .either .ensures))
-
-enum-known-answer-2 : tie.Need-enum-known-answer-2
-enum-known-answer-2 c = search needs
-
-records-of-requires-2 : tie.Need-records-of-requires-2
-records-of-requires-2 c κs = search needs
-
-go-on-requires : tie.Need-go-on-requires
-go-on-requires c κs =
-    let m = c .before .before .before .before .before in
-    let k = m .before .before .before in
-    let s = m .before .before .before .before .before .before .before .before .before in
-    let e = s .before in
-    (near′ (e .pre) (k .call .last .0) (λ n. s .slice-known .given n .fits) (λ n. m .before .slice-known2 .given n .fits) (k .call .kept .0) (k .call .ensures .0), e .pre .good .subtable-in)
+after-call-requires : tie.Need-after-call-requires
+after-call-requires c κs =
+    let p = c .before .before .before .before .before .before .before .before .before .before .before in
+    let e = p .before .before .before .before .before .before .before in
+    let is = sym (c .before .before .before .before .before .before .before .before .before .index .given .1) ∙ p .next-covered .ensures in
+    few-tables (e .pre) _ _ _ _ is _ (c .before .before .before .before .before .before .moved .ensures)
 
 same-length-2 : tie.Need-same-length-2
 same-length-2 c = search needs
 
 returns-2 : tie.Need-returns-2
 returns-2 c =
-    let m = c .before .before .before .before .before .before in
-    let k = m .before .before .before in
-    let s = m .before .before .before .before .before .before .before .before .before in
+    let k = c .before .before .before in
+    let v = k .before .before .before .before in
+    let p = v .before .before .before .before .before in
+    let s = p .before .before .before .before .before .before in
     let e = s .before in
-    let is = c .before .before .before .before .answer2 .given in
-    turned-so (e .pre) (k .call .last .0) (λ n. s .slice-known .given n .fits) (λ n. m .before .slice-known2 .given n .fits) (k .call .kept .0) (k .call .ensures .0) _ (sym (ap said (is .1))) _ (c .before .before .records-of2 .ensures) _ (k .call .ensures .1) _ (c .go-on .ensures)
-
-enum-told : tie.Need-enum-told
-enum-told c = search needs
-
-stop-requires : tie.Need-stop-requires
-stop-requires c κs = search needs
-
-same-length-3 : tie.Need-same-length-3
-same-length-3 c = search needs
-
-returns-3 : tie.Need-returns-3
-returns-3 c =
-    let m = c .before .before .before in
-    let k = m .before .before .before in
-    let s = m .before .before .before .before .before .before .before .before .before in
-    let e = s .before in
-    let is = c .before .enum-told .given in
-    turned-so (e .pre) (k .call .last .0) (λ n. s .slice-known .given n .fits) (λ n. m .before .slice-known2 .given n .fits) (k .call .kept .0) (k .call .ensures .0) _ (sym (ap said (is .1))) _ refl _ (k .call .ensures .1) _ (c .stop .ensures)
+    let is = sym (v .before .before .before .index .given .1) ∙ p .next-covered .ensures in
+    turned-so (e .pre) _ _ _ _ is _ (v .moved .ensures) (k .call .last .0) (λ n. s .slice-known .given n .fits) (λ n. c .before .slice-known2 .given n .fits) (k .call .kept .0) _ (k .call .ensures .0) _
+    (k .call .ensures .1) _ (c .after-call .ensures)
 
 pub turn-spec : {M : Type 1} → statement M
 turn-spec =
     tie.close
     (tie.spec
+    next-covered-requires
+    enum-told
+    over-requires
+    same-length
+    returns
+    enum-known-index
+    moved-requires
     mul-end
     shared-slice-read-end
     add-end
@@ -116,18 +116,6 @@ turn-spec =
     part-call-start
     part-call-end
     call-requires
-    enum-known-answer
-    either-requires
-    records-of-requires
-    arrive-requires
-    same-length
-    returns
-    enum-known-answer-2
-    records-of-requires-2
-    go-on-requires
+    after-call-requires
     same-length-2
-    returns-2
-    enum-told
-    stop-requires
-    same-length-3
-    returns-3)
+    returns-2)

@@ -1,10 +1,8 @@
 -- `marks::attachment::apply_found` meets its contract: what is known makes the plan, and it is carried out. Assumes nothing.
-use mathlib.Core.Path.{_≡_, refl, sym, ap, _∙_}
+use mathlib.Core.Path.{ap, _∙_}
 use denote.Ref.{now}
-use Rattle.slots.specs.Line.{slot, slots}
+use Rattle.slots.specs.Line.{slots}
 use Rattle.slots.specs.declared.axis.Axis.{Axis}
-use Rattle.targets.specs.MarkPos.{markIndex}
-use Rattle.targets.specs.declared.place.Way.the-variants.{Search}
 use Rattle.marks.specs.Plan.{planOf}
 use Rattle.marks.proofs.AttachmentLaws.{made-so}
 use Rattle.marks.proofs.PlanLaws.{plan-covered}
@@ -31,10 +29,10 @@ returns c =
     let e = s .before .before .before .before .before in
     let a = e .args in
     let ss = slots (a .shape) (now (a .line)) in
-    made-so (Search (a .target)) (a .s) (a .u) (a .d) (a .idx) (now (a .t)) ss
+    made-so (a .way) (a .s) (a .u) (a .d) (a .idx) (now (a .t)) ss
     (s .after-place .ensures .0
-    ∙ plan-covered (Search (a .target)) (s .before .before .cross-axis .result) (now (a .t)) ss (a .idx) (slot ss (a .idx) .glyph) refl (markIndex (now (a .t)) (slot ss (a .idx) .glyph)) refl (a .m) (e .pre .4) (e .pre .5)
-    ∙ ap (λ (x : Axis). planOf (Search (a .target)) x (now (a .t)) ss (a .idx)) (s .before .before .cross-axis .ensures))
+    ∙ plan-covered (a .way) (s .before .before .cross-axis .result) (now (a .t)) ss (a .idx) (a .m) (e .pre .4) (e .pre .5)
+    ∙ ap (λ (x : Axis). planOf (a .way) x (now (a .t)) ss (a .idx)) (s .before .before .cross-axis .ensures))
     (k .carry-out .ensures)
 
 pub apply-found-spec : {M : Type 1} → statement M
