@@ -187,9 +187,8 @@ impl Lookup {
     /// sees. (This label has no ZWJ, which is seen in the features mark and mkmk.)
     fn sees(&self, glyph: &Glyph) -> bool {
         !glyph.ignorable
-            && self.has(glyph)
             && match self.lookup_type {
-                4 | 5 => glyph.class != MARK,
+                4 | 5 => glyph.class != MARK && self.has(glyph),
                 6 => !self.leaves_out(glyph), // letters too, whatever the flag: the search ends there
                 _ => !self.skips(glyph),
             }

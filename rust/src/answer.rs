@@ -3,8 +3,8 @@ use crate::ffi;
 use core::fmt;
 use core::ops::Range;
 
-/// Why a call was refused. The lowest number that applies is given (but 8 goes before 6), and no byte of the line, or of
-/// the target of a move, has changed.
+/// Why a call was refused. The lowest number that applies is given (but 8 goes before 6), and no byte of the line, of
+/// the list, or of the target of a move, has changed.
 #[derive(Clone, Copy, Debug, PartialEq, Eq, Hash)]
 #[non_exhaustive]
 pub enum Refusal {
@@ -133,7 +133,7 @@ pub struct Hazard {
 /// A hazard as the library writes it to a list that [`lookup`](crate::lookup) is lent: three numbers. By default they
 /// are 0, and a place that no hazard was put into keeps what it held.
 ///
-/// Between `kind` and `start` lie four bytes that the library doesn't write: don't take a list for plain bytes.
+/// Between `kind` and `start` lie four bytes of padding, which may hold anything: don't take a list for plain bytes.
 #[derive(Clone, Copy, Debug, Default, PartialEq, Eq, Hash)]
 #[repr(C)]
 pub struct HazardRecord {

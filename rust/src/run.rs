@@ -100,14 +100,12 @@ fn ran(run: ffi::Run) -> Result<Run, RunError> {
 /// and the search for a base or a ligature sees only what is seen.
 ///
 /// **The slot at hand** is tried whether it is seen or not. So hide the glyphs that the lookup's flag skips, and those
-/// outside its feature: while the lookup runs, their slots have the glyph 0xFFFF, which is in no font, and `SEEN` is
-/// clear. Put the glyphs back afterwards. But for types 4 and 5 a letter or a ligature of the feature stays as it is,
-/// whatever the flag, since marks go on it; it is tried, but it is in no coverage of marks.
+/// outside its feature: while the lookup runs, their slots have the glyph 0xFFFF, which is in no font. Put the glyphs
+/// back afterwards. But for types 4 and 5 a glyph that is seen keeps its own, since a mark may go on it.
 ///
-/// HarfBuzz ends the search for a neighbour at a glyph outside the feature, where this passes over it. If that matters,
-/// leave such a slot seen, for types 2, 3 and 6: with the glyph 0xFFFF it is in no pair and joins nothing. (Where pairs
-/// go by classes it is of class 0: if the font has values for that, or if you need the same hazards, make the single
-/// calls, which are told the neighbour.)
+/// A glyph outside the feature stays seen for types 2, 3 and 6, and so ends the search for a neighbour, as in HarfBuzz:
+/// with the glyph 0xFFFF it is in no pair and joins nothing. (Where pairs go by classes it is of class 0: if the font
+/// has values for that, or if you need the same hazards, make the single calls, which are told the neighbour.)
 ///
 /// # Hazards
 ///
@@ -136,7 +134,7 @@ pub fn lookup(
 ) -> Result<Run, RunError> {
     let Lookup { lookup_type, flag, subtables, lengths } = lookup;
     // SAFETY: the library reads these bytes and numbers alone, writes those of line and list, which can't overlap the
-    // others, and keeps no pointer. It leaves a record's padding, which may hold anything.
+    // others, and keeps no pointer. A record's padding may hold anything.
     ran(unsafe {
         ffi::gpos_lookup(
             line.as_mut_ptr(),

@@ -96,10 +96,10 @@ impl Slot {
     /// takes the nearest that is seen. [`lookup`](crate::lookup) goes by it for all types but 1; of the single calls
     /// only [`mark_base`](crate::mark_base) and [`mark_ligature`](crate::mark_ligature) look at it. Before each lookup
     /// clear it on default ignorables (ZWNJ, CGJ, SHY and all others that Unicode calls so, unless a substitution made
-    /// another glyph of one) and on glyphs outside the lookup's feature, which the search then passes over; and also
+    /// another glyph of one), and also
     ///
     /// - for types 2 and 3 on glyphs that the lookup's flag skips;
-    /// - for types 4 and 5 on marks, whatever the flag;
+    /// - for types 4 and 5 on marks, whatever the flag, and on glyphs outside the lookup's feature;
     /// - for type 6 on marks that the flag leaves out, by class or by set.
     ///
     /// Set it on all others.
