@@ -67,15 +67,16 @@
  * The cluster says which letter the glyph came from. It is yours to set, to any number: say, the
  * index in the text of the letter's first character. No call but the two moves looks at a cluster
  * or writes it: on slots of 28 bytes a call says what it says on the same slots without clusters,
- * and leaves the other 24 bytes of each as it leaves them there. That is proved.
+ * and leaves the other 24 bytes of each as it leaves them there. That is proved of each call but
+ * gpos_lookup, which is made of them.
  *
  *
  * WHAT A CALL ANSWERS. gpos_start, gpos_finish and the moves return GPOS_DONE, which is 0, or the
  * number of a refusal. The others return a gpos_answer: applied, declined, or refused with a
  * number; and gpos_lookup a gpos_run. Where a call declines or refuses, no byte of the line, of the
  * list or of a move's target has changed, but for a run that stops at refusal 7. A subtable never
- * changes, nor does a line that is moved. The lowest number that applies
- * is given (by gpos_lookup 8 before 6):
+ * changes, nor does a line that is moved. The lowest number that applies is given (by gpos_lookup
+ * 8 before 6):
  *
  *     1   GPOS_REFUSED_LINE        the slot size is neither 24 nor 28; or the line's length is no
  *                                  multiple of it, or above 24,576 for slots of 24 bytes, 28,672
@@ -116,11 +117,11 @@
  *   - what a call writes (line, list, target of a move) overlaps nothing else that it is lent;
  *   - a lookup's list and lengths are aligned as C aligns them;
  *   - nobody else writes to what you lend, or reads what the call writes, while the call runs;
- *   - there is stack: gpos_cursive takes up to 536 bytes and 80 for each slot of the line, when an
- *     old chain goes through all of it (82,456 bytes for 1,024 slots); gpos_finish some 64 for each
- *     level of the nesting limit, 4,176 at most; gpos_lookup took up to 1,584, and for type 3 some
- *     600 more than gpos_cursive; the other calls took up to 1,120 where they were measured, one
- *     call of each, applied or done. No proof covers the depth of the stack.
+ *   - there is stack: gpos_cursive takes up to 584 bytes and 80 for each slot of the line, when an
+ *     old chain goes through all of it (82,504 bytes for 1,024 slots); gpos_finish some 64 for each
+ *     level of the nesting limit, 4,176 at most; gpos_lookup took up to 1,392, and for type 3 some
+ *     300 more than gpos_cursive; the other calls took up to 928 where they were measured, one call
+ *     of each, applied or done. No proof covers the depth of the stack.
  *
  * Everything else may have any value: every number is tested, and every byte of line and subtable
  * may be anything. The library is proved to end, to stay inside what it is lent, and to answer and
@@ -130,7 +131,8 @@
  * COST. Every call reads all slots of the line (some 2 instructions a slot), and every call that
  * applies a subtable all its coverage and class lists (some 11 and 20 an entry), also where it
  * declines. gpos_lookup does both once for the whole line, and goes over its slots once, so that
- * its cost grows as the line does. SPEED.md, beside GUIDE.md, has counts. */
+ * its cost grows as the line does, but for chains of cursive glyphs: each mark follows its base's,
+ * and each join may reverse an old one. SPEED.md, beside GUIDE.md, has counts. */
 #ifndef GPOS_H
 #define GPOS_H
 
@@ -330,9 +332,10 @@ uint32_t gpos_finish(uint8_t *line, size_t line_len, size_t slot_size, uint32_t 
  * Returns GPOS_DONE; or refusal 1, 2, 3, 4, 8 or 6, the first of these in this order, and line
  * and list are untouched. Which subtable is bad, a lookup of each alone on an empty line tells
  * (line and list may be NULL then): leave it out. Where a single call would be refused with 7,
- * the run stops: refusal is 7, and line and list are as the calls before left them; the slots
- * from index on have not been tried. Go on with the next lookup, and pass attachments 1 to
- * gpos_finish: attached is 0 here, though calls before may have attached. */
+ * the run stops: refusal is 7, and line and list are as the calls before left them; at index no
+ * subtable was applied, and the slots behind it have not been tried. Go on with the next lookup,
+ * and pass attachments 1 to gpos_finish: attached is 0 here, though calls before may have
+ * attached. */
 gpos_run gpos_lookup(uint8_t *line, size_t line_len, size_t slot_size, uint32_t lookup_type,
                      uint32_t lookup_flag, const uint8_t *subtables, size_t subtables_len,
                      const size_t *subtable_lens, size_t subtable_count, uint32_t direction,
