@@ -1,5 +1,5 @@
 -- Places of a run at which the glyph isn't covered are passed over: the definition's calls there decline without hazard. Assumes nothing.
-use mathlib.Core.Path.{_≡_, refl, sym, ap, _∙_}
+use mathlib.Core.Path.{_≡_, refl, ap, _∙_}
 use mathlib.Core.Bool.{Bool, true, false}
 use mathlib.Core.List.{List, [], _∷_}
 use Prim.Native.Nat.{ℕ, zero, suc, _+_, _*_, _≤_, _<_}
@@ -29,7 +29,7 @@ use Rattle.lookup.specs.declared.kinds.Kind.{Kind}
 use Rattle.lookup.specs.declared.state.Settings.{Settings}
 use Rattle.lookup.proofs.CoveredLaws.{by-steps, declines}
 use Rattle.lookup.proofs.SubtableLaws.{one-good}
-use Rattle.gpos.specs.Running.{after, atEnd, before, callAt, comesTo, goesOn, lineOn, place, Place as Spot, Run, runIn, saidOn, Stage, standing, stoppedAt}
+use Rattle.gpos.specs.Running.{after, atEnd, before, callAt, comesTo, goesOn, lineOn, place, Place as Spot, runIn, saidOn, Stage, standing, stoppedAt}
 use Rattle.gpos.proofs.RunCallLaws.{core-says}
 
 -- slot i with subtable k is next, in a line of n slots with c subtables: behind the last subtable comes the next slot
@@ -67,7 +67,8 @@ module _ (g : Settings) (kind : Kind) (b lens l : List ℕ) where
   abbrev c : ℕ
   c = length lens
 
-  -- the run from slot i and subtable k, in so many calls, is that from the place p in fewer
+  -- the run from slot i and subtable k, in so many calls, is that from slot i′ and subtable k′ in the rest: fewer by those
+  -- passed over
   pub record Passed (calls i k : ℕ) (a : Bool) (i′ k′ : ℕ) : Type 0 where
     pub rest : ℕ
     pub not-more : rest ≤ calls

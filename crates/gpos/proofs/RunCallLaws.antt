@@ -14,8 +14,6 @@ use Rattle.slots.specs.Slot.{Slot}
 use Rattle.slots.specs.declared.axis.Direction.{Direction}
 use Rattle.answers.specs.Outcome.{Call}
 use Rattle.answers.specs.code.Neighbours.{Before}
-use Rattle.answers.specs.declared.Neighbour.{Neighbour}
-use Rattle.answers.specs.declared.Neighbour.the-variants.{Named, Missing}
 use Rattle.pair.specs.code.Meant.{After}
 use Rattle.single.specs.SinglePos.{singleAdjustment, singleGood}
 use Rattle.pair.specs.Adjustment.{pairAdjustment}

@@ -1,6 +1,7 @@
--- The loop of a run: what it holds at each turn, that a turn is one single call of the definition, and what it comes to. Assumes nothing.
+-- The loop of a run: what it holds at each turn, that a turn is calls of the definition that decline without hazard, and
+-- then one more, and what it comes to. Assumes nothing.
 use mathlib.Core.Path.{_≡_, refl, sym, ap, ap₂, subst, _∙_}
-use mathlib.Core.Bool.{Bool, true, false, _||_}
+use mathlib.Core.Bool.{Bool, true, false}
 use mathlib.Core.List.{List, [], _∷_, _++_, map}
 use mathlib.Core.Option.{Option, some, none, Option·none-ne-some}
 use Prim.Native.Nat.{ℕ, zero, suc, zero-le, _+_, _*_, _/_, _^_, _≤_, _<_}
@@ -12,22 +13,19 @@ use lib.ListN.{drop, getD, length, length-append, length-map}
 use Rattle.ints.specs.BigEndian.{AllBytes}
 use Rattle.ints.specs.Choice.{if_then_else_}
 use Rattle.ints.proofs.TestLaws.{clash}
-use Rattle.slots.specs.Axis.{directionOf}
 use Rattle.slots.specs.Checks.{badLine}
 use Rattle.slots.specs.Line.{count, lineSlots, shapeOf, shapeWith, slots}
 use Rattle.slots.specs.Slot.{Slot}
-use Rattle.slots.specs.declared.shape.Shape.{Shape}
 use Rattle.slots.proofs.LineLaws.{length-slots}
-use Rattle.answers.specs.Outcome.{answerTo, lineAfter}
+use Rattle.answers.specs.Outcome.{lineAfter}
 use Rattle.answers.specs.Said.{applied, declined, done, hazardsOf, Range, notRun, refused, Said, saidRun, unless}
 use Rattle.answers.specs.declared.Neighbour.{Neighbour}
-use Rattle.answers.specs.declared.Neighbour.the-variants.{Missing}
 use Rattle.answers.proofs.TestLaws.{clear-first, clear-parts, of-unless}
 use Rattle.checks.specs.Arguments.{badScale, slotTests}
 use Rattle.checks.specs.Ranges.{badSlots}
-use Rattle.records.specs.Records.{recordOf, records, recordsOf, setAll}
+use Rattle.records.specs.Records.{recordOf, records, setAll}
 use Rattle.records.specs.declared.HazardRecord.{HazardRecord}
-use Rattle.records.proofs.Laws.{few, front, length-setAll, records-all, setAll-++}
+use Rattle.records.proofs.Laws.{front, length-setAll, records-all, setAll-++}
 use Rattle.lookup.specs.Kinds.{goodFor, kindOf}
 use Rattle.lookup.specs.Neighbours.{neighbourFor}
 use Rattle.lookup.specs.Refusals.{badLookup, unfit, verdict}
@@ -380,7 +378,7 @@ module _ (g : Settings) (line₀ b lens : List ℕ) (kind : Kind) (direction-goo
           rw (turn-is fine (At i k start m) e, line-turned fine (At i k start m) e) (at-place i k start m e calls enough r (r .rest) refl)
 
 -- ---- the loop
--- what holds at each turn of a run that began: `all` is the whole of it
+-- what holds at each turn of a run that began: what was done, and the run from here, are the whole run
 pub record Going (g : Settings) (line₀ b lens : List ℕ) (list₀ : List HazardRecord) (kind : Kind) (calls at : ℕ) (line : List ℕ) (list : List HazardRecord) (st : State) : Type 0 where
   pub told : st .lookup ≡ lookupOf kind g line₀
   pub proper : Proper (st .end)

@@ -1,6 +1,6 @@
 -- Running a lookup: the single calls, made one after another. Assumes nothing.
 use mathlib.Core.Bool.{Bool, false, _||_}
-use mathlib.Core.List.{List, [], _∷_, _++_, map}
+use mathlib.Core.List.{List, [], _++_, map}
 use mathlib.Core.Option.{Option, some, none}
 use mathlib.Core.Path.{_≡_}
 use Prim.Native.Nat.{ℕ, zero, suc, _+_, _*_}
@@ -45,7 +45,7 @@ pub data Stage : Type 0 where
   atEnd : (attached : Bool) → Stage
   stoppedAt : (index : ℕ) → Stage
 
--- it comes to slot i of n: there the first subtable is tried, whether or not the slot is seen
+-- it comes to slot i of n, where the first subtable is tried, whether or not the slot is seen; or to the line's end
 abbrev pub comesTo : ℕ → ℕ → Bool → Stage
 comesTo n i a = if ltb i n then goesOn (place i 0 a) else atEnd a
 

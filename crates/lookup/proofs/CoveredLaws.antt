@@ -1,4 +1,4 @@
--- Laws of the next covered place: the steps of the search for it, where it is, and that all before it decline. Assumes nothing.
+-- Laws of the next covered place: the steps of the search for it, where it is, and that the call of a glyph that isn't covered declines. Assumes nothing.
 use mathlib.Core.Path.{_≡_, refl, sym, ap, subst, _∙_}
 use mathlib.Core.Bool.{Bool, true, false}
 use mathlib.Core.List.{List, []}
@@ -7,7 +7,7 @@ use native.Mathlib.Nat.{suc-mul}
 use native.Mathlib.Omega.{arith}
 use borrow.Author.Tests.{le-ltb, lt-ltb, ltb-false, ltb-true}
 use lib.Dec.{ltb}
-use lib.ListN.{drop, getD, length, take}
+use lib.ListN.{getD, length, take}
 use Rattle.slots.specs.Axis.{cross}
 use Rattle.slots.specs.Slot.{Slot}
 use Rattle.slots.specs.declared.axis.Axis.{Axis}
@@ -38,7 +38,7 @@ use Rattle.lookup.specs.declared.covered.Place.{Place}
 use Rattle.lookup.specs.declared.covered.Place.the-variants.{At, Nowhere}
 use Rattle.lookup.specs.declared.kinds.Kind.{Kind}
 use Rattle.lookup.specs.declared.kinds.Kind.the-variants.{Single, Pair, Cursive, MarkBase, MarkLigature, MarkMark}
-use Rattle.lookup.proofs.SubtableLaws.{ends-inside, one-good, subtable-is, total-next, total-none}
+use Rattle.lookup.proofs.SubtableLaws.{cut, cut-inside, cut-is, one-good, total-next, total-none}
 
 -- ---- a step
 module _ (ss : List Slot) (b lengths : List ℕ) (i k : ℕ) where
@@ -90,21 +90,16 @@ pub record Searching (ss : List Slot) (b lengths : List ℕ) (i₀ k₀ start₀
 module _ {ss : List Slot} {b lengths : List ℕ} {i₀ k₀ start₀ i k start : ℕ} (now : Searching ss b lengths i₀ k₀ start₀ i k start) where
   module _ (h : k < length lengths) (adds-up : total lengths ≡ length b) where
     pub inside : start + getD lengths k 0 ≤ length b
-    inside = omega (arith, now .start-is, adds-up, ends-inside lengths k h)
+    inside = cut-inside lengths b k start (now .start-is) h adds-up
 
-    abbrev part : List ℕ
-    part = take (start + getD lengths k 0 - start) (drop start b)
+    part-is : cut lengths b k start ≡ subtable lengths b k
+    part-is = cut-is lengths b k start (now .start-is) h
 
-    part-is : part ≡ subtable lengths b k
-    part-is =
-        let only : start + getD lengths k 0 - start ≡ getD lengths k 0 = omega arith in
-        ap (λ (n : ℕ). take n (drop start b)) only ∙ ap (λ (n : ℕ). take (getD lengths k 0) (drop n b)) (now .start-is) ∙ subtable-is lengths b k h
-
-    pub readable : AllReadable b lengths → Readable part
+    pub readable : AllReadable b lengths → Readable (cut lengths b k start)
     readable all = subst Readable (sym part-is) (all k h)
 
     -- by what code found of the glyph in it
-    module _ (below : i < length ss) {c : Covered} (is : c ≡ coverAt part ss i) where
+    module _ (below : i < length ss) {c : Covered} (is : c ≡ coverAt (cut lengths b k start) ss i) where
       found : nextPlace ss b lengths i₀ k₀ start₀ ≡ placeBy i k start (nextPlace ss b lengths i (k + 1) (start + getD lengths k 0)) c
       found =
           now .same ∙ place-here ss b lengths i k start below h

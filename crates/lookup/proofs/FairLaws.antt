@@ -1,18 +1,16 @@
--- Of every call of a run: it has at most two hazards, and goes on ahead. Assumes nothing.
+-- Of every call of a run: it has at most two hazards, goes on ahead, and refuses with 7 only. Assumes nothing.
 use mathlib.Core.Bool.{Bool, true}
 use mathlib.Core.List.{List, [], _∷_}
 use mathlib.Core.Path.{_≡_}
 use Prim.Native.Nat.{ℕ, _+_, _≤_, _<_}
 use native.Mathlib.Omega.{arith}
 use lib.ListN.{length}
+use Rattle.ints.proofs.TestLaws.{clash}
 use Rattle.slots.specs.Axis.{cross}
 use Rattle.slots.specs.Slot.{Slot}
 use Rattle.slots.specs.declared.axis.Direction.{Direction}
 use Rattle.answers.specs.Said.{applied, declined, done, hazardsOf, Range, refused, Said}
-use Rattle.answers.specs.declared.Neighbour.{Neighbour}
-use Rattle.answers.specs.declared.Neighbour.the-variants.{Named}
 use Rattle.single.proofs.SaidLaws.{says as single-says}
-use Rattle.pair.specs.code.Meant.{After}
 use Rattle.pair.proofs.SaidLaws.{says as pair-says}
 use Rattle.cursive.proofs.SaidLaws.{says as cursive-says}
 use Rattle.targets.specs.declared.mark_pos.Target.the-variants.{Base, Ligature}
@@ -62,3 +60,21 @@ module _ (t : List ℕ) (d : Direction) (s u flag i : ℕ) (ss : List Slot) (in-
   fair MarkBase = marks-fair (Search Base)
   fair MarkLigature = marks-fair (Search Ligature)
   fair MarkMark = marks-fair (Earlier (neighbourFor MarkMark ss i))
+
+module _ (t : List ℕ) (d : Direction) (s u flag i : ℕ) (ss : List Slot) where
+  abbrev Seven : ℕ → Said → Type 0
+  Seven m r = r ≡ refused m → m ≡ 7
+
+  marks-7 : (way : Way) (m : ℕ) → Seven m (planSaid i (planOf way (cross d) t ss i))
+  marks-7 way m = mark-says (Seven m) way (cross d) t ss i (λ e. cc) (λ e. clash (cc)) (λ h e. clash (cc)) (λ h attached e. clash (cc))
+
+  -- a refusal of it is 7
+  pub only-7 : (kind : Kind) (m : ℕ) → callFor kind t d s u flag i (neighbourFor kind ss i) .says ss ≡ refused m → m ≡ 7
+  only-7 Single m = single-says (Seven m) t ss i (λ e. clash (cc)) (λ e. clash (cc))
+  only-7 Pair m =
+      pair-says (Seven m) d t ss i (second ss i) (λ e. clash (cc)) (λ h e. clash (cc)) (λ j named h e. clash (cc)) (λ j named h g e. clash (cc))
+  only-7 Cursive m =
+      cursive-says (Seven m) t ss i (λ e. clash (cc)) (λ h e. clash (cc)) (λ h e. clash (cc)) (neighbourFor Cursive ss i)
+  only-7 MarkBase m = marks-7 (Search Base) m
+  only-7 MarkLigature m = marks-7 (Search Ligature) m
+  only-7 MarkMark m = marks-7 (Earlier (neighbourFor MarkMark ss i)) m

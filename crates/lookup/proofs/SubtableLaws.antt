@@ -29,18 +29,31 @@ pub total-next : (ns : List ℕ) (k : ℕ) → k < length ns → total (take (k 
 total-next ns k h = ap (λ (j : ℕ). total (take j ns)) (add-one k) ∙ next-total ns k h
 
 -- and ends inside, where their lengths add up to the buffer's
-pub ends-inside : (ns : List ℕ) (k : ℕ) → k < length ns → total (take k ns) + getD ns k 0 ≤ total ns
+ends-inside : (ns : List ℕ) (k : ℕ) → k < length ns → total (take k ns) + getD ns k 0 ≤ total ns
 unfolding total
 ends-inside [] k h = absurd (omega arith)
 ends-inside (n ∷ ns) zero h = omega arith
 ends-inside (n ∷ ns) (suc k) h = omega (arith, ends-inside ns k (omega arith))
 
 -- its bytes
-pub subtable-is : (ns b : List ℕ) (k : ℕ) → k < length ns → take (getD ns k 0) (drop (total (take k ns)) b) ≡ subtable ns b k
+subtable-is : (ns b : List ℕ) (k : ℕ) → k < length ns → take (getD ns k 0) (drop (total (take k ns)) b) ≡ subtable ns b k
 unfolding subtables total
 subtable-is [] b k h = absurd (omega arith)
 subtable-is (n ∷ ns) b zero h = refl
 subtable-is (n ∷ ns) b (suc k) h = ap (take (getD ns k 0)) (sym (drop-drop (total (take k ns)) n b)) ∙ subtable-is ns (drop n b) k (omega arith)
+
+-- the same from byte `start`, where it starts, to its end
+abbrev pub cut : (ns b : List ℕ) (k start : ℕ) → List ℕ
+cut ns b k start = take (start + getD ns k 0 - start) (drop start b)
+
+module _ (ns b : List ℕ) (k start : ℕ) (starts : start ≡ total (take k ns)) (h : k < length ns) where
+  pub cut-inside : total ns ≡ length b → start + getD ns k 0 ≤ length b
+  cut-inside e = omega (arith, starts, ends-inside ns k h)
+
+  pub cut-is : cut ns b k start ≡ subtable ns b k
+  cut-is =
+      let only : start + getD ns k 0 - start ≡ getD ns k 0 = omega arith in
+      ap (λ (n : ℕ). take n (drop start b)) only ∙ ap (λ (n : ℕ). take (getD ns k 0) (drop n b)) starts ∙ subtable-is ns b k h
 
 -- one of those that all pass the test passes it
 pub one-good : (p : List ℕ → Bool) (ns b : List ℕ) (k : ℕ) → k < length ns → every p (subtables ns b) ≡ true → p (subtable ns b k) ≡ true
@@ -90,7 +103,7 @@ module _ {p : List ℕ → Bool} {ns b : List ℕ} {k start : ℕ} (kept : Passe
 
     -- the next ends inside the buffer
     pub passed-inside : total ns ≡ length b → end ≤ length b
-    passed-inside e = omega (arith, kept .start-is, ends-inside ns k h)
+    passed-inside = cut-inside ns b k start (kept .start-is) h
 
     -- it decides, with the rest
     next : every p (subtables ns b) ≡ p (take (end - start) (drop start b)) && every p (subtables (drop (k + 1) ns) (drop end b))

@@ -3,13 +3,12 @@ use mathlib.Core.Path.{_≡_, refl, sym, ap, ap₂, subst, _∙_}
 use mathlib.Core.Bool.{Bool, true, false, not, _||_}
 use mathlib.Core.List.{List}
 use mathlib.Core.Option.{Option, some, none}
-use Prim.Native.Nat.{ℕ, _+_, _-_, _*_, _/_, _≤_, _<_}
-use native.Mathlib.Decide.{decLt}
+use Prim.Native.Nat.{ℕ, _+_, _*_, _/_, _≤_, _<_}
 use native.Mathlib.Nat.{mul-le-mul-right, suc-ne-zero}
 use native.Mathlib.Omega.{arith}
-use borrow.Author.Tests.{eqb-false, eqb-true, le-ltb, lt-ltb, ltb-false, ltb-true}
+use borrow.Author.Tests.{eqb-false, eqb-true, ltb-false, ltb-true}
 use lib.Dec.{eqb, ltb}
-use lib.ListN.{drop, getD, length, length-set, set, take}
+use lib.ListN.{getD, length, length-set, set, take}
 use lib.Seq.{getD-set-other, getD-set-same}
 use Rattle.ints.specs.BigEndian.{AllBytes}
 use Rattle.ints.specs.Limits.{whole16}
@@ -24,13 +23,10 @@ use Rattle.slots.specs.declared.shape.Shape.{Shape}
 use Rattle.slots.proofs.LineLaws.{known-size, length-bytes, length-slots, line-short}
 use Rattle.tables.specs.declared.coverage.Covered.the-variants.{Index}
 use Rattle.answers.specs.Outcome.{lineAfter, Made}
-use Rattle.answers.specs.Said.{applied, declined, done, hazardsOf, Range, refused, Said}
-use Rattle.answers.specs.code.Effect.{MadeOn, slotsAfter}
+use Rattle.answers.specs.Said.{applied, declined, done, refused, Said}
+use Rattle.answers.specs.code.Effect.{MadeOn}
 use Rattle.answers.specs.declared.Neighbour.{Neighbour}
 use Rattle.answers.proofs.OutcomeLaws.{made-by}
-use Rattle.records.specs.Records.{recordsOf}
-use Rattle.records.specs.declared.Records.{Records}
-use Rattle.checks.specs.Ranges.{badSlots}
 use Rattle.targets.specs.Place.{searched}
 use Rattle.targets.specs.Search.{stopsAt}
 use Rattle.targets.specs.MarkPos.{baseCoverageOffset}
@@ -39,14 +35,13 @@ use Rattle.lookup.specs.Kinds.{goodFor}
 use Rattle.lookup.specs.Neighbours.{neighbourFor}
 use Rattle.lookup.specs.Subtables.{mostSubtables, subtable, total}
 use Rattle.lookup.specs.code.Calls.{afterSearch, byTarget, callFor, callNow, finds, Ready, remembered, Right, RightAt, slotsNow, targetOf}
-use Rattle.lookup.specs.code.Covered.{AllReadable, coverAt, nextPlace}
+use Rattle.lookup.specs.code.Covered.{AllReadable, coverAt}
 use Rattle.lookup.specs.code.Meant.{placeNumber}
-use Rattle.lookup.specs.code.Run.{called, ended, Fine, goes, leftNow, lineAt, lineCalled, lineOf, movedTo, Next, nextState, Placed, placeNow, saidNow, subtableNow, turnAt, turnedBy, turnOf}
+use Rattle.lookup.specs.code.Run.{called, Fine, goes, lineAt, lineCalled, lineOf, movedTo, Next, nextState, Placed, placeNow, saidNow, subtableNow, turnAt, turnedBy, turnOf}
 use Rattle.lookup.specs.declared.covered.Place.{Place}
 use Rattle.lookup.specs.declared.covered.Place.the-variants.{At, Nowhere}
 use Rattle.lookup.specs.declared.kinds.Kind.{Kind}
 use Rattle.lookup.specs.declared.kinds.Kind.the-variants.{Single, Pair, Cursive, MarkBase, MarkLigature, MarkMark}
-use Rattle.lookup.specs.declared.state.End.the-variants.{Done}
 use Rattle.lookup.specs.declared.state.Memory.{Memory}
 use Rattle.lookup.specs.declared.state.State.{State}
 use Rattle.lookup.specs.declared.turns.Turned.{Turned}
@@ -58,7 +53,7 @@ use Rattle.lookup.proofs.KeptCursive.{cursive-kept}
 use Rattle.lookup.proofs.KeptMarks.{mark-kept}
 use Rattle.lookup.proofs.KeptValues.{pair-kept, single-kept}
 use Rattle.lookup.proofs.NeighbourLaws.{neighbour-same}
-use Rattle.lookup.proofs.SubtableLaws.{ends-inside, one-good, subtable-is, total-next, total-none}
+use Rattle.lookup.proofs.SubtableLaws.{cut, cut-inside, cut-is, one-good, total-next, total-none}
 
 -- whether a line is bad, and its shape, go by its length
 abbrev badLengthOf : ℕ → ℕ → Bool
@@ -111,16 +106,13 @@ module _ {l b lengths : List ℕ} {st : State} (placed : Placed l b lengths st) 
   -- ---- what the call needs
   -- its subtable ends inside the buffer
   pub part-inside : st .start + len ≤ length b
-  part-inside = omega (arith, fine .good .start-is, fine .good .adds-up, ends-inside lengths (st .subtable) (placed .subtable-in))
+  part-inside = cut-inside lengths b (st .subtable) (st .start) (fine .good .start-is) (placed .subtable-in) (fine .good .adds-up)
 
   abbrev part : List ℕ
-  part = take (st .start + len - st .start) (drop (st .start) b)
+  part = cut lengths b (st .subtable) (st .start)
 
   part-is : part ≡ T
-  part-is =
-      let only : st .start + len - st .start ≡ len = omega arith in
-      ap (λ (n : ℕ). take n (drop (st .start) b)) only ∙ ap (λ (n : ℕ). take len (drop n b)) (fine .good .start-is)
-      ∙ subtable-is lengths b (st .subtable) (placed .subtable-in)
+  part-is = cut-is lengths b (st .subtable) (st .start) (fine .good .start-is) (placed .subtable-in)
 
   -- the numbers of a line's slots fit 16 bits
   few-slots : st .index < whole16
@@ -158,10 +150,7 @@ module _ {l b lengths : List ℕ} {st : State} (placed : Placed l b lengths st) 
   now-kept : identities (callNow T st .leaves ss) ≡ identities ss
   now-kept = call-kept kind T (st .lookup .direction) (st .lookup .s) (st .lookup .u) (st .lookup .flag) (st .index) (st .near) ss
 
-  -- so it leaves as many slots as there were, and as many bytes
-  pub left-length : length (leftNow l b lengths st) ≡ length ss
-  left-length = same-length (leftNow l b lengths st) ss (after-kept (callNow T st .says ss) ss (callNow T st .leaves ss) now-kept)
-
+  -- so it leaves as many bytes as there were
   pub line-length : length (lineCalled l b lengths st) ≡ length l
   unfolding lineCalled
   line-length = by-said (saidNow l b lengths st)
@@ -379,7 +368,7 @@ module _ {l b lengths : List ℕ} {st : State} (fine : Fine l b lengths st) wher
     turns-so l′ q x = (x .0 ∙ sym (turn-is (At i k start m) e), x .1 ∙ sym (line-turned (At i k start m) e), x .2)
 
     abbrev there : List ℕ
-    there = take (start + getD lengths k 0 - start) (drop start b)
+    there = cut lengths b k start
 
     -- code has a state that is this one
     module _ (q : State) (is : q ≡ here) where

@@ -13,7 +13,7 @@ use targets::place::searched;
 use targets::search::Found;
 ghost use mathlib.Core.Path.{_≡_};
 ghost use Prim.Native.Nat.{_<_};
-ghost use lib.ListN.{getD, length};
+ghost use lib.ListN.{getD};
 ghost use Rattle.slots.specs.Line.{slots};
 ghost use Rattle.tables.specs.declared.coverage.Covered.the-variants.{Index};
 ghost use Rattle.answers.specs.code.Effect.{MadeOn};
@@ -45,68 +45,37 @@ pub fn call(line: &mut [u8], t: &[u8], st: State, m: usize) -> Called
     let kind = l.kind;
     let shape = l.shape;
     let d = l.direction;
+    let s = l.s;
+    let u = l.u;
     let i = st.index;
+    let k = st.subtable;
     let near = st.near;
     let memory = st.memory;
     match kind {
         Kind::Single => {
-            let answer = single::adjustment::apply_covered(line, shape, t, d, l.s, l.u, i, m);
+            let answer = single::adjustment::apply_covered(line, shape, t, d, s, u, i, m);
             return unsearched(answer, memory);
         }
         Kind::Pair => {
-            let answer = pair::adjustment::apply_covered(line, shape, t, d, l.s, l.u, i, m, near);
+            let answer = pair::adjustment::apply_covered(line, shape, t, d, s, u, i, m, near);
             return unsearched(answer, memory);
         }
         Kind::Cursive => {
-            let answer = cursive::attachment::apply_covered(
-                line,
-                shape,
-                t,
-                d,
-                l.s,
-                l.u,
-                i,
-                m,
-                near,
-                l.flag,
-            );
+            let f = l.flag;
+            let answer = cursive::attachment::apply_covered(line, shape, t, d, s, u, i, m, near, f);
             return unsearched(answer, memory);
         }
         Kind::MarkMark => {
             let way = Way::Earlier(near);
             let place = named(line, shape, i, near);
-            let answer = apply_found(line, shape, t, way, d, l.s, l.u, i, m, place);
+            let answer = apply_found(line, shape, t, way, d, s, u, i, m, place);
             return unsearched(answer, memory);
         }
         Kind::MarkBase => {
-            return search_call(
-                line,
-                shape,
-                t,
-                Target::Base,
-                d,
-                l.s,
-                l.u,
-                i,
-                m,
-                memory,
-                st.subtable,
-            );
+            return search_call(line, shape, t, Target::Base, d, s, u, i, m, memory, k);
         }
         Kind::MarkLigature => {
-            return search_call(
-                line,
-                shape,
-                t,
-                Target::Ligature,
-                d,
-                l.s,
-                l.u,
-                i,
-                m,
-                memory,
-                st.subtable,
-            );
+            return search_call(line, shape, t, Target::Ligature, d, s, u, i, m, memory, k);
         }
     }
 }
@@ -176,7 +145,7 @@ fn remember(memory: Memory, k: usize, until: u16, found: u16) -> Memory
     }
 }
 
-// What was found, as a number: that of the slot, and one; or 0.
+// What was found, as a number: one more than that of the slot, or 0.
 fn number_of(found: Found) -> usize
     requires { ⌜ Small found ⌝ }
     ensures { λ r. ⌜ r ≡ placeNumber (foundOf found) ⌝ }

@@ -1,5 +1,5 @@
-// The next place at which a call can do more than decline: where the slot's glyph is covered. All six kinds ask that
-// first, and a glyph that isn't covered declines without hazard; so a run passes over it without a call.
+// The next place at which a call can do more than decline without hazard: where the slot's glyph is covered. All six
+// kinds ask that first, and a glyph that isn't covered declines without hazard; so a run passes over it without a call.
 use ints::big_endian::read_u16;
 use slots::fields::glyph;
 use slots::shape::Shape;

@@ -28,9 +28,9 @@ pub struct Lookup {
     pub u: u32,
 }
 
-// How far the search for what a mark goes on has come with each subtable: up to slot `until`. `found` is the number of the
-// slot that it finds before that, and one; or 0, if it finds none. 16 bits hold the number of any slot: a run copies its
-// state at each call, and this is the most of it.
+// How far the search for what a mark goes on has come with each subtable: up to slot `until`. `found` is one more than
+// the number of the slot that it finds before that, or 0 if it finds none. 16 bits hold the number of any slot: with 64
+// this would be most of the state, which a run copies at each call.
 pub struct Memory {
     pub until: [u16; 8],
     pub found: [u16; 8],

@@ -19,7 +19,7 @@ ghost use Rattle.answers.specs.Said.{said};
 ghost use Rattle.lookup.specs.Neighbours.{neighbourFor};
 ghost use Rattle.lookup.specs.Subtables.{mostSubtables};
 ghost use Rattle.lookup.specs.code.Calls.{slotsNow};
-ghost use Rattle.lookup.specs.code.Run.{ended, Fine, goes, lineOf, movedTo, Near, Next, turnedBy, turnOf};
+ghost use Rattle.lookup.specs.code.Run.{ended, Fine, goes, lineOf, movedTo, Next, turnedBy, turnOf};
 
 // What a turn gives: the records of its call, and where the run stands then.
 pub struct Turned {

@@ -11,7 +11,6 @@ use Rattle.slots.specs.Slot.{Slot}
 use Rattle.slots.specs.Line.{lineSlots, shapeOf, shapeWith}
 use Rattle.slots.specs.declared.axis.Direction.the-variants.{LeftToRight}
 use Rattle.answers.specs.Said.{applied, declined, done, refused, Said}
-use Rattle.answers.specs.declared.Neighbour.the-variants.{Missing}
 use Rattle.answers.specs.declared.Refusal.the-variants.{Line, Direction, Number, Slot as BadSlot, Subtable}
 use Rattle.lookup.specs.Kinds.{kindOf}
 use Rattle.lookup.specs.Neighbours.{neighbourFor}

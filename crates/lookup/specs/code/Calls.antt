@@ -31,7 +31,6 @@ use Rattle.lookup.specs.Subtables.{mostSubtables}
 use Rattle.lookup.specs.code.Meant.{placeNumber}
 use Rattle.lookup.specs.declared.kinds.Kind.{Kind}
 use Rattle.lookup.specs.declared.kinds.Kind.the-variants.{Single, Pair, Cursive, MarkBase, MarkLigature, MarkMark}
-use Rattle.lookup.specs.declared.state.Lookup.{Lookup}
 use Rattle.lookup.specs.declared.state.Memory.{Memory}
 use Rattle.lookup.specs.declared.state.State.{State}
 
@@ -63,11 +62,6 @@ targetOf Single = none
 targetOf Pair = none
 targetOf Cursive = none
 targetOf MarkMark = none
-
--- the call of such a kind
-abbrev pub searchNow : Target → List ℕ → State → Call
-searchNow target t st =
-    markAttachment (Search target) t (st .lookup .direction) (st .lookup .s) (st .lookup .u) (st .index)
 
 -- what a search with the subtable t finds before slot n, if the kind makes one
 abbrev pub finds : Option Target → List ℕ → List Slot → ℕ → Option ℕ

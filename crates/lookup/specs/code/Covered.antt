@@ -1,4 +1,4 @@
--- The next place at which a call can do more than decline. Assumes nothing.
+-- The next place at which a call can do more than decline without hazard. Assumes nothing.
 use mathlib.Core.Bool.{true}
 use mathlib.Core.List.{List}
 use mathlib.Core.Path.{_≡_}

@@ -10,7 +10,7 @@ abbrev pub kindKnown : LookupType → Option Kind
 kindKnown (Known k) = some k
 kindKnown Unknown = none
 
--- a slot found, or none, as a number: that of the slot, and one; or 0
+-- a slot found, or none, as a number: one more than that of the slot, or 0
 abbrev pub placeNumber : Option ℕ → ℕ
 placeNumber (some i) = i + 1
 placeNumber none = 0

@@ -1,18 +1,16 @@
 -- Where a run stands, and one turn of it: the next covered place, the single call there, and where the run goes on.
 -- Assumes nothing.
 use mathlib.Core.Bool.{Bool, true, false, _||_}
-use mathlib.Core.List.{List, []}
+use mathlib.Core.List.{List}
 use mathlib.Core.Path.{_≡_}
 use Prim.Native.Nat.{ℕ, _+_, _≤_, _<_}
 use lib.ListN.{getD, length, take}
 use Rattle.ints.specs.code.Scale.{InScale}
 use Rattle.slots.specs.Checks.{badLine}
-use Rattle.slots.specs.Slot.{Slot}
 use Rattle.slots.specs.Line.{shapeOf}
 use Rattle.slots.specs.code.Shape.{Fits}
 use Rattle.answers.specs.Outcome.{lineAfter}
 use Rattle.answers.specs.Said.{Said, applied, declined, refused, done, hazardsOf}
-use Rattle.answers.specs.code.Effect.{slotsAfter}
 use Rattle.answers.specs.declared.Neighbour.{Neighbour}
 use Rattle.answers.specs.declared.Neighbour.the-variants.{Missing}
 use Rattle.checks.specs.Ranges.{badSlots}
@@ -48,7 +46,7 @@ goes i k start attached near known m l =
       lookup = l;
     }
 
--- the run has ended, at slot i
+-- the run has ended; where a call was refused, at slot i
 abbrev pub ended : (end : End) (i : ℕ) (attached : Bool) (m : Memory) (l : Lookup) → State
 ended end i attached m l =
     record {
@@ -91,10 +89,6 @@ module _ (l b lengths : List ℕ) (st : State) where
   -- what the call says
   abbrev pub saidNow : Said
   saidNow = callNow subtableNow st .says (slotsNow l st)
-
-  -- the slots that it leaves
-  abbrev pub leftNow : List Slot
-  leftNow = slotsAfter saidNow (slotsNow l st) (callNow subtableNow st .leaves (slotsNow l st))
 
   -- the line that it leaves
   unfoldable pub lineCalled : List ℕ

@@ -1,9 +1,8 @@
 -- `lookup::covered::next_covered` meets its contract. The loop's invariant: what is asked of slot i and subtable k is asked of j and b. The measure is the steps that are left. Assumes nothing.
-use mathlib.Core.Path.{refl, sym, ap, _∙_}
-use Prim.Native.Nat.{ℕ}
+use mathlib.Core.Path.{refl, ap, _∙_}
 use native.Mathlib.Omega.{arith}
 use denote.Ref.{now}
-use Rattle.slots.specs.Line.{slot, slots}
+use Rattle.slots.specs.Line.{slots}
 use Rattle.slots.proofs.LineLaws.{length-slots}
 use Rattle.lookup.specs.code.Covered.{coverOf, stepsFrom}
 use Rattle.lookup.proofs.CoveredLaws.{at-end, found-here, inside, next-slot, not-here, readable, Searching, steps-here, steps-slot}
