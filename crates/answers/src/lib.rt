@@ -1,25 +1,27 @@
 // What the calls answer, in one place: cores and public calls use the same types. specs/Said.antt has what
 // each case says, by the rules.
+#![tactic(auto)]
+
 ghost use Rattle.std.specs.Prelude.{[], ◌∷◌, ◌≡◌};
 ghost use Rattle.answers.specs.Said.{unsafe_to_break, unsafe_to_concat, range, ranges, refusal_number};
 
 // The other glyph of a pair, of a cursive attachment or of a mark on a mark: the slot that the caller names, or none,
 // with the bound that it names instead.
-#[derive(Drop)]
+#[derive(Clone, Copy)]
 pub enum Neighbour {
     Named(usize),
     Missing(usize),
 }
 
 // A hazard is unsafe to break or unsafe to concatenate.
-#[derive(Drop)]
+#[derive(Clone, Copy)]
 pub enum HazardKind {
     UnsafeToBreak,
     UnsafeToConcat,
 }
 
 // From start up to end, end not included; as named, also past the line's end.
-#[derive(Drop)]
+#[derive(Clone, Copy)]
 pub struct Hazard {
     pub kind: HazardKind,
     pub start: usize,
@@ -49,7 +51,7 @@ pub fn unsafe_to_concat(start: usize, end: usize) -> Hazard
 }
 
 // In order. A decline has at most one.
-#[derive(Drop)]
+#[derive(Clone, Copy)]
 pub enum Hazards {
     None,
     One(Hazard),
@@ -64,7 +66,7 @@ pub fn miss(start: usize, end: usize) -> Hazards
 }
 
 // Why a call is refused, in the order of the rules, 1 to 7.
-#[derive(Drop)]
+#[derive(Clone, Copy)]
 pub enum Refusal {
     // A slot has no such size; or the line's length is no multiple of it, or above 1,024 slots'.
     Line,
@@ -98,7 +100,7 @@ pub fn refusal_number(x: Refusal) -> u32
 }
 
 // What an applying call answers.
-#[derive(Drop)]
+#[derive(Clone, Copy)]
 pub enum Answer {
     Applied {
         next: usize,
@@ -112,7 +114,7 @@ pub enum Answer {
 }
 
 // What the moves answer.
-#[derive(Drop)]
+#[derive(Clone, Copy)]
 pub enum Moved {
     Done,
     Refused(Refusal),
@@ -121,14 +123,14 @@ pub enum Moved {
 }
 
 // What starting and finishing answer.
-#[derive(Drop)]
+#[derive(Clone, Copy)]
 pub enum Done {
     Done,
     Refused(Refusal),
 }
 
 // What the run of a lookup answers.
-#[derive(Drop)]
+#[derive(Clone, Copy)]
 pub enum Ran {
     // To the line's end: how many records it put into the list, and whether any call attached.
     Done { records: usize, attached: bool },

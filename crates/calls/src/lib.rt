@@ -1,4 +1,6 @@
 // Recorded calls: read from standard input, made again, and compared with what is recorded.
+#![tactic(auto)]
+
 mod making; // the call
 mod reading; // the list
 mod replaying; // the call, and whether it answered and wrote the same

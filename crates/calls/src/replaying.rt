@@ -9,7 +9,7 @@ use recorded::{Call, Numbers, after_length, is_after, is_answer};
 
 // A call's numbers, whether it was made again, what it answered, and whether that and the bytes afterwards are as
 // recorded.
-#[derive(Drop)]
+#[derive(Clone, Copy)]
 pub struct Remade {
     pub numbers: Numbers,
     pub made: bool,

@@ -9,7 +9,7 @@ use ints::scale::{LEAST_UPEM, MOST_S, MOST_UPEM};
 use slots::shape::{Cut, Shape, cut_of};
 
 // What the checks found: the shape of the line's slots, or why the call is refused.
-#[derive(Drop)]
+#[derive(Clone, Copy)]
 pub enum Checked {
     Slots(Shape),
     Refused(Refusal),

@@ -5,7 +5,7 @@ ghost use Rattle.checks.specs.Neighbours.{bad_after, bad_before, bad_place};
 use answers::Neighbour;
 
 // What a call is made on beside the slot at its index.
-#[derive(Drop)]
+#[derive(Clone, Copy)]
 pub enum Beside {
     Nothing,
     // The second glyph of a pair.

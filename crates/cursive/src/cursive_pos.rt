@@ -31,7 +31,7 @@ const ENTRY_ANCHOR: usize = 0;
 const EXIT_ANCHOR: usize = 1;
 
 // What is to be done for a slot.
-#[derive(Drop)]
+#[derive(Clone, Copy)]
 pub enum Plan {
     // Nothing, but a hazard to report, or none.
     Stop(Hazards),

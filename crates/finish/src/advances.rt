@@ -16,7 +16,7 @@ use slots::fields::Measure;
 use slots::shape::{Shape, part_shape};
 
 // A slot's two offsets. The field that is later in a slot comes first: both are then written by one store.
-#[derive(Drop)]
+#[derive(Clone, Copy)]
 pub struct Offsets {
     pub y: Signed,
     pub x: Signed,

@@ -1,6 +1,8 @@
 // The finishing program: takes all of standard input as a line, finishes it left to right with nesting limit 64, and
 // prints its slots, or the number of the refusal. The buffer holds more than the longest line, so that a longer input
 // is refused and never cut.
+#![tactic(auto)]
+
 mod usage; // what it says of itself
 
 ghost use Rattle.std.specs.Prelude.{◌≤◌, length};

@@ -1,6 +1,8 @@
 // Glyph positioning on lines of slots: the public calls. Each takes any bytes and any numbers, checks each argument
 // once, and answers as docs/RULES.md says; the work is done by the cores below. A refusal or a decline leaves the
 // line, or a move's target, as it was.
+#![tactic(auto)]
+
 mod cursive_pos;
 mod finishing;
 mod mark_pos;

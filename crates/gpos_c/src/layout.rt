@@ -8,7 +8,7 @@ use lookup::state::Settings;
 use records::{HazardRecord, record_of};
 
 #[repr(C)]
-#[derive(Drop)]
+#[derive(Clone, Copy)]
 pub struct CAnswer {
     pub status: u32,
     pub refusal: u32,
@@ -19,7 +19,7 @@ pub struct CAnswer {
 }
 
 #[repr(C)]
-#[derive(Drop)]
+#[derive(Clone, Copy)]
 pub struct CRan {
     pub refusal: u32,
     pub attached: u32,
@@ -28,7 +28,7 @@ pub struct CRan {
 }
 
 // An answer's hazards as C sees them.
-#[derive(Drop)]
+#[derive(Clone, Copy)]
 struct List {
     count: u32,
     hazard: [HazardRecord; 2],

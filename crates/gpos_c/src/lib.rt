@@ -1,5 +1,7 @@
 // The calls of gpos for C and for other languages, as include/gpos.h declares them. Each calls its namesake and lays
 // the answer out as numbers.
+#![tactic(auto)]
+
 mod layout;
 
 ghost use Rattle.gpos.specs.CursivePos.{CursiveCall};

@@ -24,7 +24,7 @@ use targets::place::{Way, named, searched};
 use targets::search::Found;
 
 // What a single call answered, and how far the searches have come.
-#[derive(Drop)]
+#[derive(Clone, Copy)]
 pub struct Called {
     pub answer: Answer,
     pub memory: Memory,

@@ -14,7 +14,7 @@ use tables::coverage::{Covered, index_at};
 use tables::header::COVERAGE_OFFSET;
 
 // A place of a run.
-#[derive(Drop)]
+#[derive(Clone, Copy)]
 pub enum Place {
     // Slot `index` with subtable `subtable`, which starts at byte `start` and covers the slot's glyph, as `covered`.
     At {

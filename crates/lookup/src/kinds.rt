@@ -3,7 +3,7 @@ ghost use Rattle.std.specs.Prelude.{◌≡◌};
 ghost use Rattle.lookup.specs.Kinds.{good_for, kind_of};
 ghost use Rattle.lookup.specs.code.Meant.{kind_known};
 
-#[derive(Drop)]
+#[derive(Clone, Copy)]
 pub enum Kind {
     Single,
     Pair,
@@ -14,7 +14,7 @@ pub enum Kind {
 }
 
 // The kind of a lookup type, or that it has none.
-#[derive(Drop)]
+#[derive(Clone, Copy)]
 pub enum LookupType {
     Known(Kind),
     Unknown,

@@ -15,7 +15,7 @@ use answers::{Answer, Neighbour};
 use records::{Records, records_of};
 
 // What a turn gives: the records of its call, and where the run stands then.
-#[derive(Drop)]
+#[derive(Clone, Copy)]
 pub struct Turned {
     pub records: Records,
     pub next: State,

@@ -23,7 +23,7 @@ const LIGATURE_COUNT: usize = 0;
 const LIGATURE_ATTACH_OFFSETS: usize = 2;
 
 // The anchors that were found.
-#[derive(Drop)]
+#[derive(Clone, Copy)]
 pub enum Anchors {
     // Both: the base's, and the mark's.
     Both { base: Point, mark: Point },
@@ -34,7 +34,7 @@ pub enum Anchors {
 }
 
 // The row of anchors to look in, or that there is none.
-#[derive(Drop)]
+#[derive(Clone, Copy)]
 pub enum Row {
     Of(usize),
     Missing,

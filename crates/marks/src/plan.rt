@@ -24,7 +24,7 @@ use targets::search::Found;
 use targets::walk::{Walk, cross_offset};
 
 // What is to be done for a mark.
-#[derive(Drop)]
+#[derive(Clone, Copy)]
 pub enum Plan {
     // Nothing.
     Stop,

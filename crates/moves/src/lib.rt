@@ -1,4 +1,6 @@
 // Moving a line to slots with a cluster, and back. The 24 bytes that every slot has are copied.
+#![tactic(auto)]
+
 ghost use Rattle.std.specs.Prelude.{map, ◌≡◌, ◌≤◌, length};
 ghost use Rattle.ints.specs.Limits.{whole32};
 ghost use Rattle.slots.specs.Slot.{clustered_size, slot_of, slot_size};

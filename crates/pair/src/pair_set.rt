@@ -14,7 +14,7 @@ pub const PAIR_VALUE_RECORDS: usize = 2;
 pub const SECOND_GLYPH_SIZE: usize = 2;
 
 // What a probe comes to.
-#[derive(Drop)]
+#[derive(Clone, Copy)]
 pub enum Probe {
     // The record of the second glyph starts here.
     Found(usize),

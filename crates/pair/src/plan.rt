@@ -21,7 +21,7 @@ use tables::header::POS_FORMAT;
 use tables::part::OFFSET_SIZE;
 
 // What is to be done with a pair.
-#[derive(Drop)]
+#[derive(Clone, Copy)]
 pub enum Plan {
     // Nothing, but a hazard to report.
     Stop(Hazards),

@@ -11,7 +11,7 @@ use records::HazardRecord;
 
 // What a call is made with; of the line and the subtable, how many bytes they have. A move has a target in place of the
 // subtable.
-#[derive(Drop)]
+#[derive(Clone, Copy)]
 pub struct Numbers {
     pub kind: u32,
     pub direction: u32,
@@ -29,7 +29,7 @@ pub struct Numbers {
 }
 
 // What a call is made with, and what it answered.
-#[derive(Drop)]
+#[derive(Clone, Copy)]
 pub struct Call {
     pub numbers: Numbers,
     pub answer: CAnswer,

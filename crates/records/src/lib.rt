@@ -1,5 +1,7 @@
 // The records of a list that the caller lends: hazards as numbers, for the library and for C alike.
 // `push` and `put` are proved by hand, since the kit covers no list of structs.
+#![tactic(auto)]
+
 ghost use Rattle.std.specs.Prelude.{◌≡◌, ◌<◌, ◌≤◌, ◌+◌, length, set};
 ghost use Rattle.answers.specs.Said.{range, ranges};
 ghost use Rattle.records.specs.Records.{kind_number, record_of, records_of, records, set_all};
@@ -9,7 +11,7 @@ use answers::{Hazard, HazardKind, Hazards};
 // A record of the lent list, for library and C alike: 24 bytes on 64-bit, kind at 0, start at 8, end at 16.
 // specs/Records.antt has the number of each kind.
 #[repr(C)]
-#[derive(Drop)]
+#[derive(Clone, Copy)]
 pub struct HazardRecord {
     pub kind: u32,
     pub start: usize,
@@ -17,7 +19,7 @@ pub struct HazardRecord {
 }
 
 // The records of one single call, in order.
-#[derive(Drop)]
+#[derive(Clone, Copy)]
 pub enum Records {
     None,
     One(HazardRecord),

@@ -1,5 +1,7 @@
 // Replays recorded calls, whose answers the Rust gave, and moves, which the oracle checked: the file stdin has them,
 // and oracle/README.md says how it was made. Every number and every byte is compared.
+#![tactic(auto)]
+
 use calls::{list_number, next};
 
 // Replays the next call of the list, and says whether it answered and wrote what is recorded.

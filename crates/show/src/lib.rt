@@ -1,4 +1,6 @@
 // Printing for the programs: the text of numbers, slots and answers, and writing it to standard output.
+#![tactic(auto)]
+
 mod numbers; // a number as text
 mod rows; // a slot as a line of text
 mod printing; // writing

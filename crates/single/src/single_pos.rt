@@ -23,7 +23,7 @@ const VALUE_COUNT: usize = 6;
 const VALUE_RECORDS: usize = 8;
 
 // Where a glyph's value record is.
-#[derive(Drop)]
+#[derive(Clone, Copy)]
 pub enum ValuePlace {
     // At this byte of the subtable.
     Byte(usize),

@@ -24,7 +24,7 @@ use ints::big_endian::{
 };
 
 // The fields of one byte.
-#[derive(Drop)]
+#[derive(Clone, Copy)]
 pub enum ByteField {
     LigatureId,
     Component,
@@ -32,7 +32,7 @@ pub enum ByteField {
     AttachType,
 }
 
-#[derive(Drop)]
+#[derive(Clone, Copy)]
 pub enum Flag {
     Seen,
     Mark,
@@ -40,7 +40,7 @@ pub enum Flag {
 }
 
 // The fields of a glyph's place, on either axis.
-#[derive(Drop)]
+#[derive(Clone, Copy)]
 pub enum Measure {
     Advance,
     Offset,

@@ -10,7 +10,7 @@ ghost use Rattle.slots.specs.Parent.{parent};
 use crate::fields::chain_bytes;
 use crate::shape::Shape;
 
-#[derive(Drop)]
+#[derive(Clone, Copy)]
 pub enum Parent {
     // Chain 0.
     None,

@@ -12,14 +12,14 @@ use crate::layout::{CLUSTERED_SIZE, SLOT_SIZE};
 pub const MOST_SLOTS: usize = 1024;
 
 // How many bytes a slot has, and how many slots there are.
-#[derive(Drop)]
+#[derive(Clone, Copy)]
 pub struct Shape {
     pub size: usize,
     pub count: usize,
 }
 
 // How many slots a line has; or it is no line of such slots.
-#[derive(Drop)]
+#[derive(Clone, Copy)]
 pub enum Cut {
     Slots(usize),
     Bad,

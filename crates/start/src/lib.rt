@@ -1,4 +1,6 @@
 // Starting a line (`position_start`): every chain and type becomes 0, and nothing else changes.
+#![tactic(auto)]
+
 ghost use Rattle.std.specs.Prelude.{true, ◌≡◌, ◌≤◌, length};
 ghost use Rattle.slots.specs.Slot.{known, slot_of, slot_size};
 ghost use Rattle.slots.specs.code.Shape.{Fits};

@@ -1,5 +1,7 @@
 // Worked sums and other recorded calls, made again, as text: the label of each, what it answered, and the slots of a
 // line of at most four. The file stdin has them, and oracle/README.md says how it was made.
+#![tactic(auto)]
+
 mod answers; // what a call answered
 mod printing; // texts with numbers
 mod rows; // slots

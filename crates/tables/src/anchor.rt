@@ -18,14 +18,14 @@ const Y_COORDINATE: usize = 4;
 const FORMAT_SIZE: usize = 2;
 
 // A place in a glyph, in the font's units.
-#[derive(Drop)]
+#[derive(Clone, Copy)]
 pub struct Point {
     pub x: Signed,
     pub y: Signed,
 }
 
 // The point of an anchor that is there.
-#[derive(Drop)]
+#[derive(Clone, Copy)]
 pub enum Anchor {
     // It is whole and of a known format.
     At(Point),

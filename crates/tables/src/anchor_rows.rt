@@ -14,7 +14,7 @@ const ROW_COUNT: usize = 0;
 const ANCHOR_OFFSETS: usize = 2;
 
 // How many rows there are.
-#[derive(Drop)]
+#[derive(Clone, Copy)]
 pub enum Rows {
     // The table is whole.
     Of(usize),

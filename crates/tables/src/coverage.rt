@@ -17,7 +17,7 @@ const COUNT: usize = 2;
 const START_COVERAGE_INDEX: usize = 4;
 
 // A glyph's coverage index.
-#[derive(Drop)]
+#[derive(Clone, Copy)]
 pub enum Covered {
     // It is covered, with this index.
     Index(usize),

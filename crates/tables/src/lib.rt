@@ -1,5 +1,7 @@
 // The tables of a GPOS subtable (OpenType, Common Table Formats and GPOS). A table at an offset is all that the
 // subtable has from there on. Lists are checked once, by `good`; a lookup relies on that.
+#![tactic(auto)]
+
 pub mod header; // the header of a subtable: its format, and whether it is whole
 pub mod part; // tables at offsets
 pub mod spans; // lists of spans: the ascending test and the search

@@ -18,7 +18,7 @@ const MARK_RECORD_SIZE: usize = 4;
 const MARK_ANCHOR_OFFSET: usize = 2;
 
 // A mark of an array.
-#[derive(Drop)]
+#[derive(Clone, Copy)]
 pub enum Mark {
     // Its class, and its anchor.
     Of { class: u32, anchor: Point },

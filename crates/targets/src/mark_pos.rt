@@ -23,7 +23,7 @@ pub const BASE_ARRAY_OFFSET: usize = 10;
 const HEADER_BYTES: usize = 12;
 
 // What is searched for.
-#[derive(Drop)]
+#[derive(Clone, Copy)]
 pub enum Target {
     Base,
     Ligature,

@@ -15,7 +15,7 @@ use ints::big_endian::read_u16;
 use slots::shape::Shape;
 
 // How the slot is known.
-#[derive(Drop)]
+#[derive(Clone, Copy)]
 pub enum Way {
     // It is searched for.
     Search(Target),

@@ -13,7 +13,7 @@ use slots::shape::Shape;
 use tables::coverage::Covered;
 
 // A slot found, or none.
-#[derive(Drop)]
+#[derive(Clone, Copy)]
 pub enum Found {
     Slot(usize),
     Nowhere,

@@ -14,7 +14,7 @@ use slots::parent::Parent;
 use slots::shape::Shape;
 
 // The sum of the cross offsets, or that the walk never ends.
-#[derive(Drop)]
+#[derive(Clone, Copy)]
 pub enum Walk {
     Sum(Signed),
     Endless,

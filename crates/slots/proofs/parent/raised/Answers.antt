@@ -1,0 +1,8 @@
+-- A number of 16 bits, raised by 2 ^ 15. Assumes nothing.
+use native.Mathlib.Omega.{arith}
+use Rattle.slots.specs.code.Fields.{swapped}
+use Rattle.slots.proofs.ChainLaws.{raised_chain}
+use Rattle.slots.proofs.parent.raised.Goals as goal
+
+pub returns : goal.returns
+returns c = (raised_chain (swapped c.args.bytes) (omega arith), omega arith)
