@@ -1,0 +1,18 @@
+-- `tables::coverage::good_at` meets its contract: offset 0 passes, past the end the table is cut, and else the part that starts there is checked. Assumes
+-- nothing.
+use mathlib.Core.Bool.{true}
+use Rattle.tables.specs.Coverage.{coverage_good}
+use Rattle.tables.proofs.PartLaws.{at_part, at_past, at_zero}
+use Rattle.tables.proofs.coverage.good_at.Goals as goal
+
+pub returns-then-off-eq0 : goal.returns-then-off-eq0
+returns-then-off-eq0 c = let a = c.args in at_zero true coverage_good a.s.now a.off c.if-off-eq0.true
+
+pub returns-then-s-off : goal.returns-then-s-off
+returns-then-s-off c = let a = c.args in at_past true coverage_good a.s.now a.off c.if-off-eq0.false c.if-s-off.true
+
+pub returns : goal.returns
+returns c =
+    let b = c in
+    let a = b.args in
+    at_part true coverage_good a.s.now a.off b.if-off-eq0.false c.good2.result c.good2.ensures
