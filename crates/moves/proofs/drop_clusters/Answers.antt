@@ -29,8 +29,8 @@ loop-i-preserved c =
     let i = at-loop.i in
     let t = at-loop.target in (
       omega arith,
-      same_len_mid (i * slot_size) (lent_length slot_size i) t call.new.to.0 call.auto.to.0 ∙ at-loop.invariant.1,
-      move_turn w v l t (map (with_cluster 0) ss) i (search rules) (search rules) (with_cluster 0) call.new.to.0 call.auto.to.0
+      same_len_mid (i * slot_size) (lent_length slot_size i) t call.new.to call.auto.to ∙ at-loop.invariant.1,
+      move_turn w v l t (map (with_cluster 0) ss) i (search rules) (search rules) (with_cluster 0) call.new.to call.auto.to
           (call.ensures ∙ ap (λ (n : ℕ). with_cluster n (slot_of (lent w l i))) (plain_cluster (lent v t i) (omega (arith, lent_size v t i (search rules)))))
           (omega (arith, length-map ss (with_cluster 0), length_slots w l)) (get_or-map (with_cluster 0) ss i no_slot) at-loop.invariant.2,
     )

@@ -28,8 +28,8 @@ loop-i-preserved c =
     let i = at-loop.i in
     let t = at-loop.target in (
       omega arith,
-      same_len_mid (i * clustered_size) (lent_length clustered_size i) t call.new.to.0 call.auto.to.0 ∙ at-loop.invariant.1,
-      move_turn w v l t (numbered_from 0 ss) i (search rules) (search rules) (with_cluster i) call.new.to.0 call.auto.to.0 call.ensures
+      same_len_mid (i * clustered_size) (lent_length clustered_size i) t call.new.to call.auto.to ∙ at-loop.invariant.1,
+      move_turn w v l t (numbered_from 0 ss) i (search rules) (search rules) (with_cluster i) call.new.to call.auto.to call.ensures
           (omega (arith, length_numbered 0 ss, length_slots w l)) (numbered_at i ss (omega (arith, length_slots w l))) at-loop.invariant.2,
     )
 

@@ -14,28 +14,23 @@ returns-then-t-lt-FORMAT_SIZE c = (simp (lt-leb _ _ c.if-t-lt-FORMAT_SIZE.true),
 
 pub returns-then-format-lt1 : goal.returns-then-format-lt1
 returns-then-format-lt1 c =
-    let b = c in
-    (rw (← b.read_u16-format.ensures.0) (simp (le-leb _ _ b.if-t-lt-FORMAT_SIZE.false, lt-leb _ _ c.if-format-lt1.true)), tt)
+    (rw (← c.read_u16-format.ensures.0) (simp (le-leb _ _ c.if-t-lt-FORMAT_SIZE.false, lt-leb _ _ c.if-format-lt1.true)), tt)
 
 pub returns-then-format-gt3 : goal.returns-then-format-gt3
 returns-then-format-gt3 c =
-    let b = c in
-    (rw (← b.read_u16-format.ensures.0) (simp (le-leb _ _ b.if-t-lt-FORMAT_SIZE.false, le-leb _ _ c.if-format-lt1.false, lt-leb _ _ c.if-format-gt3.true)), tt)
+    (rw (← c.read_u16-format.ensures.0) (simp (le-leb _ _ c.if-t-lt-FORMAT_SIZE.false, le-leb _ _ c.if-format-lt1.false, lt-leb _ _ c.if-format-gt3.true)), tt)
 
 pub returns-then-t-format : goal.returns-then-t-format
-returns-then-t-format c =
-    let b = c in (
-      rw (← b.read_u16-format.ensures.0)
-          (simp (le-leb _ _ b.if-t-lt-FORMAT_SIZE.false, le-leb _ _ c.if-format-lt1.false, le-leb _ _ c.if-format-gt3.false, lt-leb _ _ c.if-t-format.true)),
-      tt,
-    )
+returns-then-t-format c = (
+  rw (← c.read_u16-format.ensures.0)
+      (simp (le-leb _ _ c.if-t-lt-FORMAT_SIZE.false, le-leb _ _ c.if-format-lt1.false, le-leb _ _ c.if-format-gt3.false, lt-leb _ _ c.if-t-format.true)),
+  tt,
+)
 
 pub returns : goal.returns
-returns c =
-    let e = c in
-    let b = e in (
-      rw (← b.read_u16-format.ensures.0)
-          (simp (le-leb _ _ b.if-t-lt-FORMAT_SIZE.false, le-leb _ _ e.if-format-lt1.false, le-leb _ _ e.if-format-gt3.false, le-leb _ _ e.if-t-format.false)
-          (ap₂ at c.read_i16-x.ensures.0 c.read_i16-y.ensures.0)),
-      record { x_near = c.read_i16-x.ensures.1; y_near = c.read_i16-y.ensures.1 },
-    )
+returns c = (
+  rw (← c.read_u16-format.ensures.0)
+      (simp (le-leb _ _ c.if-t-lt-FORMAT_SIZE.false, le-leb _ _ c.if-format-lt1.false, le-leb _ _ c.if-format-gt3.false, le-leb _ _ c.if-t-format.false)
+      (ap₂ at c.read_i16-x.ensures.0 c.read_i16-y.ensures.0)),
+  record { x_near = c.read_i16-x.ensures.1; y_near = c.read_i16-y.ensures.1 },
+)

@@ -7,10 +7,8 @@ use Rattle.tables.proofs.anchor.coordinate_on.Goals as goal
 
 pub returns-in-X : goal.returns-in-X
 returns-in-X c =
-    let s = c in
-    (sym (ap (λ (a : Axis). coordinate a (point_of s.args.p)) c.in-X.is), s.requires.x_near)
+    (sym (ap (λ (a : Axis). coordinate a (point_of c.args.p)) c.in-X.is), c.requires.x_near)
 
 pub returns-in-Y : goal.returns-in-Y
 returns-in-Y c =
-    let s = c in
-    (sym (ap (λ (a : Axis). coordinate a (point_of s.args.p)) c.in-Y.is), s.requires.y_near)
+    (sym (ap (λ (a : Axis). coordinate a (point_of c.args.p)) c.in-Y.is), c.requires.y_near)

@@ -26,8 +26,7 @@ pub child_of-requires : goal.child_of-requires
 child_of-requires c = let a = c.args in (omega arith, places_few a.rows a.columns (omega arith) (omega arith))
 
 pub returns : goal.returns
-returns c =
-    let t = c in (
-      simp (lt-ltb _ _ t.if-rows-row.false, lt-ltb _ _ t.if-columns-class.false) (c.anchor_of.ensures.0 ∙ ap anchor_of c.child_of.ensures),
-      c.anchor_of.ensures.1,
-    )
+returns c = (
+  simp (lt-ltb _ _ c.if-rows-row.false, lt-ltb _ _ c.if-columns-class.false) (c.anchor_of.ensures.0 ∙ ap anchor_of c.child_of.ensures),
+  c.anchor_of.ensures.1,
+)

@@ -18,10 +18,8 @@ overflow_add-rows c = omega (arith, places_few c.read_u16-rows.result c.args.col
 
 pub returns-then-t-rows : goal.returns-then-t-rows
 returns-then-t-rows c =
-    let b = c in
-    rw (← b.read_u16-rows.ensures.0) (simp (le-leb _ _ b.if-t-lt-ANCHOR_OFFSETS.false, lt-leb _ _ c.if-t-rows.true))
+    rw (← c.read_u16-rows.ensures.0) (simp (le-leb _ _ c.if-t-lt-ANCHOR_OFFSETS.false, lt-leb _ _ c.if-t-rows.true))
 
 pub returns : goal.returns
 returns c =
-    let b = c in
-    rw (← b.read_u16-rows.ensures.0) (simp (le-leb _ _ b.if-t-lt-ANCHOR_OFFSETS.false, le-leb _ _ c.if-t-rows.false))
+    rw (← c.read_u16-rows.ensures.0) (simp (le-leb _ _ c.if-t-lt-ANCHOR_OFFSETS.false, le-leb _ _ c.if-t-rows.false))

@@ -14,20 +14,18 @@ returns-then-off-eq0 c =
     (at_zero 0 (λ (l : List ℕ). class_of l a.glyph) a.s.now a.off c.if-off-eq0.true, omega arith)
 
 pub slice_bounds-class_of-count : goal.slice_bounds-class_of-count
-slice_bounds-class_of-count c = let s = c in omega (arith, passed_in class_good refl s.args.s.now s.args.off c.if-off-eq0.false s.requires.1)
+slice_bounds-class_of-count c = omega (arith, passed_in class_good refl c.args.s.now c.args.off c.if-off-eq0.false c.requires.1)
 
 pub slice_bounds-class_of-start : goal.slice_bounds-class_of-start
-slice_bounds-class_of-start c = let s = c in omega (arith, passed_in class_good refl s.args.s.now s.args.off c.if-off-eq0.false s.requires.1)
+slice_bounds-class_of-start c = omega (arith, passed_in class_good refl c.args.s.now c.args.off c.if-off-eq0.false c.requires.1)
 
 pub class_of-requires : goal.class_of-requires
 class_of-requires c =
-    let s = c in
-    passed_part class_good refl s.args.s.now s.args.off c.if-off-eq0.false s.requires.1
+    passed_part class_good refl c.args.s.now c.args.off c.if-off-eq0.false c.requires.1
 
 pub returns : goal.returns
 returns c =
-    let b = c in
-    let a = b.args in (
-      at_part 0 (λ (l : List ℕ). class_of l a.glyph) a.s.now a.off b.if-off-eq0.false c.class_of.result c.class_of.ensures.0,
+    let a = c.args in (
+      at_part 0 (λ (l : List ℕ). class_of l a.glyph) a.s.now a.off c.if-off-eq0.false c.class_of.result c.class_of.ensures.0,
       c.class_of.ensures.1,
     )

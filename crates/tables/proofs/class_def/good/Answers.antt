@@ -7,33 +7,24 @@ returns-then-t-lt-LIST_HEADER_SIZE c = simp (lt-ltb _ _ c.if-t-lt-LIST_HEADER_SI
 
 pub returns-then-t-lt-CLASS_VALUE_ARRAY : goal.returns-then-t-lt-CLASS_VALUE_ARRAY
 returns-then-t-lt-CLASS_VALUE_ARRAY c =
-    let b = c in
-    rw (← b.read_u16-format.ensures.0) (simp (le-ltb _ _ b.if-t-lt-LIST_HEADER_SIZE.false, eq-eqb _ _ c.if-format-eq1.true, lt-leb _ _ c.if-t-lt-CLASS_VALUE_ARRAY.true))
+    rw (← c.read_u16-format.ensures.0) (simp (le-ltb _ _ c.if-t-lt-LIST_HEADER_SIZE.false, eq-eqb _ _ c.if-format-eq1.true, lt-leb _ _ c.if-t-lt-CLASS_VALUE_ARRAY.true))
 
 pub returns-then-format-eq1 : goal.returns-then-format-eq1
 returns-then-format-eq1 c =
-    let d = c in
-    let b = d in
-    rw (← b.read_u16-format.ensures.0, ← c.read_u16-count.ensures.0)
-    (simp (le-ltb _ _ b.if-t-lt-LIST_HEADER_SIZE.false, eq-eqb _ _ d.if-format-eq1.true, le-leb _ _ d.if-t-lt-CLASS_VALUE_ARRAY.false))
+    rw (← c.read_u16-format.ensures.0, ← c.read_u16-count.ensures.0)
+    (simp (le-ltb _ _ c.if-t-lt-LIST_HEADER_SIZE.false, eq-eqb _ _ c.if-format-eq1.true, le-leb _ _ c.if-t-lt-CLASS_VALUE_ARRAY.false))
 
 pub returns-then-t-count : goal.returns-then-t-count
 returns-then-t-count c =
-    let n = c in
-    let b = n in
-    rw (← b.read_u16-format.ensures.0, ← n.read_u16-count-then-format-eq2.ensures.0)
-    (simp (le-ltb _ _ b.if-t-lt-LIST_HEADER_SIZE.false, ne_eqb _ _ n.if-format-eq1.false, eq-eqb _ _ n.if-format-eq2.true, lt-leb _ _ c.if-t-count.true))
+    rw (← c.read_u16-format.ensures.0, ← c.read_u16-count-then-format-eq2.ensures.0)
+    (simp (le-ltb _ _ c.if-t-lt-LIST_HEADER_SIZE.false, ne_eqb _ _ c.if-format-eq1.false, eq-eqb _ _ c.if-format-eq2.true, lt-leb _ _ c.if-t-count.true))
 
 pub returns-then-format-eq2 : goal.returns-then-format-eq2
 returns-then-format-eq2 c =
-    let d = c in
-    let n = d in
-    let b = n in
-    rw (← b.read_u16-format.ensures.0, ← n.read_u16-count-then-format-eq2.ensures.0)
-    (simp (le-ltb _ _ b.if-t-lt-LIST_HEADER_SIZE.false, ne_eqb _ _ n.if-format-eq1.false, eq-eqb _ _ n.if-format-eq2.true, le-leb _ _ d.if-t-count.false)
+    rw (← c.read_u16-format.ensures.0, ← c.read_u16-count-then-format-eq2.ensures.0)
+    (simp (le-ltb _ _ c.if-t-lt-LIST_HEADER_SIZE.false, ne_eqb _ _ c.if-format-eq1.false, eq-eqb _ _ c.if-format-eq2.true, le-leb _ _ c.if-t-count.false)
     c.ascending.ensures)
 
 pub returns : goal.returns
 returns c =
-    let b = c in
-    rw (← b.read_u16-format.ensures.0) (simp (le-ltb _ _ b.if-t-lt-LIST_HEADER_SIZE.false, ne_eqb _ _ c.if-format-eq1.false, ne_eqb _ _ c.if-format-eq2.false))
+    rw (← c.read_u16-format.ensures.0) (simp (le-ltb _ _ c.if-t-lt-LIST_HEADER_SIZE.false, ne_eqb _ _ c.if-format-eq1.false, ne_eqb _ _ c.if-format-eq2.false))

@@ -13,6 +13,5 @@ returns-then-s-off c = let a = c.args in at_past true coverage_good a.s.now a.of
 
 pub returns : goal.returns
 returns c =
-    let b = c in
-    let a = b.args in
-    at_part true coverage_good a.s.now a.off b.if-off-eq0.false c.good2.result c.good2.ensures
+    let a = c.args in
+    at_part true coverage_good a.s.now a.off c.if-off-eq0.false c.good.result c.good.ensures

@@ -15,18 +15,16 @@ returns-then-off-eq0 c =
     at_zero Not (λ (l : List ℕ). coverage_index l a.glyph) a.s.now a.off c.if-off-eq0.true
 
 pub slice_bounds-index_of-count : goal.slice_bounds-index_of-count
-slice_bounds-index_of-count c = let s = c in omega (arith, passed_in coverage_good refl s.args.s.now s.args.off c.if-off-eq0.false s.requires.1)
+slice_bounds-index_of-count c = omega (arith, passed_in coverage_good refl c.args.s.now c.args.off c.if-off-eq0.false c.requires.1)
 
 pub slice_bounds-index_of-start : goal.slice_bounds-index_of-start
-slice_bounds-index_of-start c = let s = c in omega (arith, passed_in coverage_good refl s.args.s.now s.args.off c.if-off-eq0.false s.requires.1)
+slice_bounds-index_of-start c = omega (arith, passed_in coverage_good refl c.args.s.now c.args.off c.if-off-eq0.false c.requires.1)
 
 pub index_of-requires : goal.index_of-requires
 index_of-requires c =
-    let s = c in
-    (omega arith, passed_part coverage_good refl s.args.s.now s.args.off c.if-off-eq0.false s.requires.1)
+    (omega arith, passed_part coverage_good refl c.args.s.now c.args.off c.if-off-eq0.false c.requires.1)
 
 pub returns : goal.returns
 returns c =
-    let b = c in
-    let a = b.args in
-    at_part Not (λ (l : List ℕ). coverage_index l a.glyph) a.s.now a.off b.if-off-eq0.false c.index_of.result c.index_of.ensures
+    let a = c.args in
+    at_part Not (λ (l : List ℕ). coverage_index l a.glyph) a.s.now a.off c.if-off-eq0.false c.index_of.result c.index_of.ensures

@@ -10,17 +10,14 @@ returns-then-t-one c = simp (lt-leb _ _ c.if-t-one.true)
 pub returns-then-format-eq1 : goal.returns-then-format-eq1
 unfolding header_good
 returns-then-format-eq1 c =
-    let b = c in
-    rw (← b.read_u16-format.ensures.0) (simp (le-leb _ _ b.if-t-one.false, eq-eqb _ _ c.if-format-eq1.true))
+    rw (← c.read_u16-format.ensures.0) (simp (le-leb _ _ c.if-t-one.false, eq-eqb _ _ c.if-format-eq1.true))
 
 pub returns-then-format-eq2 : goal.returns-then-format-eq2
 unfolding header_good
 returns-then-format-eq2 c =
-    let b = c in
-    rw (← b.read_u16-format.ensures.0) (simp (le-leb _ _ b.if-t-one.false, ne_eqb _ _ c.if-format-eq1.false, eq-eqb _ _ c.if-format-eq2.true))
+    rw (← c.read_u16-format.ensures.0) (simp (le-leb _ _ c.if-t-one.false, ne_eqb _ _ c.if-format-eq1.false, eq-eqb _ _ c.if-format-eq2.true))
 
 pub returns : goal.returns
 unfolding header_good
 returns c =
-    let b = c in
-    rw (← b.read_u16-format.ensures.0) (simp (le-leb _ _ b.if-t-one.false, ne_eqb _ _ c.if-format-eq1.false, ne_eqb _ _ c.if-format-eq2.false))
+    rw (← c.read_u16-format.ensures.0) (simp (le-leb _ _ c.if-t-one.false, ne_eqb _ _ c.if-format-eq1.false, ne_eqb _ _ c.if-format-eq2.false))

@@ -12,21 +12,17 @@ returns-then-t-lt-MARK_RECORDS c = (simp (lt-leb _ _ c.if-t-lt-MARK_RECORDS.true
 
 pub returns-then-read_u16-k : goal.returns-then-read_u16-k
 returns-then-read_u16-k c =
-    let b = c in
-    (rw (← b.read_u16.ensures.0) (simp (le-leb _ _ b.if-t-lt-MARK_RECORDS.false, le-ltb _ _ c.if-read_u16-k.true)), tt)
+    (rw (← c.read_u16.ensures.0) (simp (le-leb _ _ c.if-t-lt-MARK_RECORDS.false, le-ltb _ _ c.if-read_u16-k.true)), tt)
 
 pub returns-then-t-at : goal.returns-then-t-at
 returns-then-t-at c =
-    let b = c in
-    (rw (← b.read_u16.ensures.0) (simp (le-leb _ _ b.if-t-lt-MARK_RECORDS.false, lt-ltb _ _ c.if-read_u16-k.false, lt-leb _ _ c.if-t-at.true)), tt)
+    (rw (← c.read_u16.ensures.0) (simp (le-leb _ _ c.if-t-lt-MARK_RECORDS.false, lt-ltb _ _ c.if-read_u16-k.false, lt-leb _ _ c.if-t-at.true)), tt)
 
 pub returns : goal.returns
 returns c =
-    let d = c in
-    let b = d in
-    let l = b.args.t.now in (
-      rw (← b.read_u16.ensures.0)
-          (simp (le-leb _ _ b.if-t-lt-MARK_RECORDS.false, lt-ltb _ _ d.if-read_u16-k.false, le-leb _ _ d.if-t-at.false)
+    let l = c.args.t.now in (
+      rw (← c.read_u16.ensures.0)
+          (simp (le-leb _ _ c.if-t-lt-MARK_RECORDS.false, lt-ltb _ _ c.if-read_u16-k.false, le-leb _ _ c.if-t-at.false)
           (c.mark_with.ensures.0
           ∙ ap₂ (λ (x y : ℕ). with_class x (anchor_of (drop y l))) c.read_u16-2.ensures.0 c.read_u16-3.ensures.0)),
       c.mark_with.ensures.1,

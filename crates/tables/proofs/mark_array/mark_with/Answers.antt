@@ -15,22 +15,19 @@ returns-then-t-off c =
     let a = c.args in
     (sym (ap (λ (l : List ℕ). with_class a.class (anchor_of l)) (past_end a.t.now a.off c.if-t-off.true)), tt)
 
--- what the call of `anchor_of` found is the anchor at the offset
-whole : (c : tie.After-anchor-of)
-    → anchor_of (drop c.args.off c.args.t.now) ≡ anchor_point c.anchor_of.result
-whole c =
-    let a = c.args in
-    sym (c.anchor_of.ensures.0 ∙ ap anchor_of (to_end a.t.now a.off))
-
 pub returns-in-At : goal.returns-in-At
 returns-in-At c =
-    let k = c in
+    let whole : anchor_of (drop c.args.off c.args.t.now) ≡ anchor_point c.anchor_of.result =
+    let a = c.args in
+    sym (c.anchor_of.ensures.0 ∙ ap anchor_of (to_end a.t.now a.off)) in
     let e = c.in-At.is in (
-      sym (ap (with_class k.args.class) (whole k ∙ ap anchor_point e)),
-      subst AnchorNear e k.anchor_of.ensures.1,
+      sym (ap (with_class c.args.class) (whole ∙ ap anchor_point e)),
+      subst AnchorNear e c.anchor_of.ensures.1,
     )
 
 pub returns-in-Absent : goal.returns-in-Absent
 returns-in-Absent c =
-    let k = c in
-    (sym (ap (with_class k.args.class) (whole k ∙ ap anchor_point c.in-Absent.is)), tt)
+    let whole : anchor_of (drop c.args.off c.args.t.now) ≡ anchor_point c.anchor_of.result =
+    let a = c.args in
+    sym (c.anchor_of.ensures.0 ∙ ap anchor_of (to_end a.t.now a.off)) in
+    (sym (ap (with_class c.args.class) (whole ∙ ap anchor_point c.in-Absent.is)), tt)

@@ -12,6 +12,5 @@ returns-then-s-here c = simp (lt-ltb _ _ c.if-count-k.false, lt-leb _ _ c.if-s-h
 
 pub returns : goal.returns
 returns c =
-    let t = c in
-    simp (lt-ltb _ _ t.if-count-k.false, le-leb _ _ t.if-s-here.false)
-    (c.table_at.ensures ∙ ap (table_at t.args.s.now) c.read_u16.ensures.0)
+    simp (lt-ltb _ _ c.if-count-k.false, le-leb _ _ c.if-s-here.false)
+    (c.table_at.ensures ∙ ap (table_at c.args.s.now) c.read_u16.ensures.0)

@@ -1,5 +1,4 @@
 -- After each turn of the loop the fields up to the next that is there are applied, and after the last turn all are. Assumes nothing.
-use mathlib.Core.Logic.{⊎_elim}
 use mathlib.Core.Path.{◌≡◌, refl, ◌∙◌}
 use Prim.Native.Nat.{◌-◌, ◌≤◌, ◌<◌}
 use native.Mathlib.Omega.{arith}
@@ -8,6 +7,7 @@ use Rattle.slots.specs.Line.{slots}
 use Rattle.slots.proofs.LineLaws.{length_slots}
 use Rattle.values.proofs.ValueLaws.{absent_fields, all_fields, more_fields, no_fields, or_kept, or_set, record_empty, record_whole}
 use Rattle.values.proofs.value.apply_value.Goals as goal
+use Rattle.values.proofs.value.apply_value.Goals.{then-apply_field, else-apply_field}
 
 pub returns-then-r-eq0 : goal.returns-then-r-eq0
 returns-then-r-eq0 c =
@@ -52,7 +52,10 @@ loop-field-preserved c =
       call.auto.line ∙ l.loop-field.invariant.1,
       more_fields a.s a.u a.d a.r.now a.format a.i ss next.result now (slots a.shape call.new.line) w x y inside
           (rw next.ensures.0 (absent_fields a.s a.u a.d a.r.now a.format a.i ss 32 l.loop-field.field now w inside l.loop-field.invariant.2)) call.ensures
-          (⊎_elim (λ h. or_set w x y h.0.taken h.1) (λ h. or_kept w x y h.0.left h.1) c.if-apply_field.branch),
+          (elim c.if-apply_field.branch [
+            | then-apply_field h ↦ or_set w x y h.if-apply_field.true h.works-is
+            | else-apply_field h ↦ or_kept w x y h.if-apply_field.false h.works-is
+          ]),
     )
 
 pub shape_of-line : goal.shape_of-line
