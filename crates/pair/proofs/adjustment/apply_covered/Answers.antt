@@ -19,15 +19,6 @@ use Rattle.pair.proofs.PairPosLaws.{good}
 use Rattle.pair.proofs.PlanLaws.{covered}
 use Rattle.pair.proofs.adjustment.apply_covered.Goals as goal
 
--- what was decided is the plan: the first glyph is covered as k
-decided : (c : tie.After-after-neighbour) (p : CodePlan) → c.after_neighbour-plan.result ≡ p
-    → (let a = c.args in meant a.t.now p ≡ plan_of a.t.now (slots a.shape a.line.now) a.idx a.neighbour)
-decided c p e =
-    let a = c.args in
-    let t = a.t.now in
-    sym (ap (meant t) e)
-    ∙ covered t (slots a.shape a.line.now) a.idx a.neighbour a.k c.requires.4 (meant t c.after_neighbour-plan.result) c.after_neighbour-plan.ensures.0
-
 pub slice_bounds-apply_pair-count : goal.slice_bounds-apply_pair-count
 slice_bounds-apply_pair-count c =
     let inside : let s = c in let m = c in Sound s.args.t.now s.args.shape.count s.args.idx (Adjust m.in-Adjust.offset m.in-Adjust.at m.in-Adjust.second) =
@@ -65,13 +56,23 @@ pair_answer-requires c =
 
 pub returns-in-Stop : goal.returns-in-Stop
 returns-in-Stop c =
+    let decided : (p : CodePlan) → c.after_neighbour-plan.result ≡ p → (let a = c.args in meant a.t.now p ≡ plan_of a.t.now (slots a.shape a.line.now) a.idx a.neighbour) =
+    λ p e. let a = c.args in
+    let t = a.t.now in
+    sym (ap (meant t) e)
+    ∙ covered t (slots a.shape a.line.now) a.idx a.neighbour a.k c.requires.4 (meant t c.after_neighbour-plan.result) c.after_neighbour-plan.ensures.0 in
     let a = c.args in
     let ss = slots a.shape a.line.now in
     declines a.s a.u a.d a.t.now a.idx ss (plan_of a.t.now ss a.idx a.neighbour) (ranges c.in-Stop.hazards)
-    (decided c _ c.in-Stop.is)
+    (decided _ c.in-Stop.is)
 
 pub returns-in-Adjust : goal.returns-in-Adjust
 returns-in-Adjust c =
+    let decided : (p : CodePlan) → c.after_neighbour-plan.result ≡ p → (let a = c.args in meant a.t.now p ≡ plan_of a.t.now (slots a.shape a.line.now) a.idx a.neighbour) =
+    λ p e. let a = c.args in
+    let t = a.t.now in
+    sym (ap (meant t) e)
+    ∙ covered t (slots a.shape a.line.now) a.idx a.neighbour a.k c.requires.4 (meant t c.after_neighbour-plan.result) c.after_neighbour-plan.ensures.0 in
     let a = c.args in
     let t = a.t.now in
     let ss = slots a.shape a.line.now in
@@ -79,7 +80,7 @@ returns-in-Adjust c =
     let at = c.in-Adjust.at in
     let second = c.in-Adjust.second in
     adjusts a.s a.u a.d t a.idx ss (plan_of t ss a.idx a.neighbour) (drop off t) (take (length t - off) (drop off t)) at second
-    (decided c _ c.in-Adjust.is) (to_end t off)
+    (decided _ c.in-Adjust.is) (to_end t off)
     (said c.pair_answer.result) c.apply_pair-worked.result (not (eqb c.read_u16.result 0)) (slots a.shape c.apply_pair-worked.new.line)
     c.pair_answer.ensures
     c.apply_pair-worked.ensures.1

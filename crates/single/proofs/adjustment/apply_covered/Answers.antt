@@ -12,14 +12,6 @@ use Rattle.single.specs.declared.single_pos.ValuePlace.{ValuePlace}
 use Rattle.single.proofs.SinglePosLaws.{effect_none, effect_some, format_known, long, place_by_lem}
 use Rattle.single.proofs.adjustment.apply_covered.Goals as goal
 
--- the place that was found is that of the slot's glyph
-found : (c : tie.After-value-place) (p : ValuePlace) → c.value_place-place.result ≡ p
-    → (let a = c.args in value_place_of p ≡ place_for a.t.now (slot (slots a.shape a.line.now) a.i).glyph)
-found c p e =
-    let a = c.args in
-    sym (ap value_place_of e) ∙ c.value_place-place.ensures.0
-    ∙ place_by_lem a.t.now (slot (slots a.shape a.line.now) a.i).glyph (Index a.k) c.requires.3
-
 pub read_u16-format-requires : goal.read_u16-format-requires
 read_u16-format-requires c = long _ c.requires.2
 
@@ -37,12 +29,20 @@ apply_value-requires c =
 
 pub returns-in-Nowhere : goal.returns-in-Nowhere
 returns-in-Nowhere c =
+    let found : (p : ValuePlace) → c.value_place-place.result ≡ p → (let a = c.args in value_place_of p ≡ place_for a.t.now (slot (slots a.shape a.line.now) a.i).glyph) =
+    λ p e. let a = c.args in
+    sym (ap value_place_of e) ∙ c.value_place-place.ensures.0
+    ∙ place_by_lem a.t.now (slot (slots a.shape a.line.now) a.i).glyph (Index a.k) c.requires.3 in
     let a = c.args in
-    effect_none a.s a.u a.d a.t.now a.i (slots a.shape a.line.now) (found c _ c.in-Nowhere.is)
+    effect_none a.s a.u a.d a.t.now a.i (slots a.shape a.line.now) (found _ c.in-Nowhere.is)
 
 pub returns-in-Byte : goal.returns-in-Byte
 returns-in-Byte c =
+    let found : (p : ValuePlace) → c.value_place-place.result ≡ p → (let a = c.args in value_place_of p ≡ place_for a.t.now (slot (slots a.shape a.line.now) a.i).glyph) =
+    λ p e. let a = c.args in
+    sym (ap value_place_of e) ∙ c.value_place-place.ensures.0
+    ∙ place_by_lem a.t.now (slot (slots a.shape a.line.now) a.i).glyph (Index a.k) c.requires.3 in
     let a = c.args in
     effect_some a.s a.u a.d a.t.now a.i (slots a.shape a.line.now) c.in-Byte.at c.read_u16-format.result
-    c.record_at.result.now (slots a.shape c.apply_value.new.line) (found c _ c.in-Byte.is) c.read_u16-format.ensures.0
+    c.record_at.result.now (slots a.shape c.apply_value.new.line) (found _ c.in-Byte.is) c.read_u16-format.ensures.0
     c.record_at.ensures.0 c.apply_value.ensures.0

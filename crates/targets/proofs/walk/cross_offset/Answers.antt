@@ -17,16 +17,6 @@ use Rattle.targets.proofs.WalkLaws.{climb_in, walk_out, walk_start, walk_turn}
 use borrow.Author.Rules.{rules}
 use Rattle.targets.proofs.walk.cross_offset.Goals as goal
 
--- the whole answer, once code knows the parent that the walk climbs to: p
-turn : (f : tie.After-climb-from invariant-loop decreases-loop) (p : Parent) → f.climb_from.result ≡ p → (let s = f in let a = s.args in
-    cross_offset a.a (slots a.shape a.line.now) a.i ≡ by_parent p (some (val s.loop-left.sum)) (some (val s.loop-left.sum))
-    (λ j. cross_offset_in (s.loop-left.left - 1) a.a (slots a.shape a.line.now) j (sat_add (val s.loop-left.sum) (offset a.a (slot (slots a.shape a.line.now) j)))))
-turn f p e =
-    let s = f in
-    let a = s.args in
-    s.loop-left.invariant.1
-    ∙ walk_turn a.a (slots a.shape a.line.now) s.loop-left.left s.loop-left.at (val s.loop-left.sum) (omega arith) p (sym f.climb_from.ensures ∙ e)
-
 pub loop-left-init : goal.loop-left-init
 loop-left-init c =
     let a = c.args in
@@ -36,10 +26,22 @@ loop-left-init c =
     )
 
 pub returns-in-None : goal.returns-in-None
-returns-in-None c = sym (turn c None c.in-None.is)
+returns-in-None c =
+    let turn : (p : Parent) → c.climb_from.result ≡ p → (let s = c in let a = s.args in cross_offset a.a (slots a.shape a.line.now) a.i ≡ by_parent p (some (val s.loop-left.sum)) (some (val s.loop-left.sum)) (λ j. cross_offset_in (s.loop-left.left - 1) a.a (slots a.shape a.line.now) j (sat_add (val s.loop-left.sum) (offset a.a (slot (slots a.shape a.line.now) j))))) =
+    λ p e. let s = c in
+    let a = s.args in
+    s.loop-left.invariant.1
+    ∙ walk_turn a.a (slots a.shape a.line.now) s.loop-left.left s.loop-left.at (val s.loop-left.sum) (omega arith) p (sym c.climb_from.ensures ∙ e) in
+    sym (turn None c.in-None.is)
 
 pub returns-in-Outside : goal.returns-in-Outside
-returns-in-Outside c = sym (turn c Outside c.in-Outside.is)
+returns-in-Outside c =
+    let turn : (p : Parent) → c.climb_from.result ≡ p → (let s = c in let a = s.args in cross_offset a.a (slots a.shape a.line.now) a.i ≡ by_parent p (some (val s.loop-left.sum)) (some (val s.loop-left.sum)) (λ j. cross_offset_in (s.loop-left.left - 1) a.a (slots a.shape a.line.now) j (sat_add (val s.loop-left.sum) (offset a.a (slot (slots a.shape a.line.now) j))))) =
+    λ p e. let s = c in
+    let a = s.args in
+    s.loop-left.invariant.1
+    ∙ walk_turn a.a (slots a.shape a.line.now) s.loop-left.left s.loop-left.at (val s.loop-left.sum) (omega arith) p (sym c.climb_from.ensures ∙ e) in
+    sym (turn Outside c.in-Outside.is)
 
 pub get-requires : goal.get-requires
 get-requires c =
@@ -49,12 +51,20 @@ get-requires c =
 
 pub loop-left-preserved : goal.loop-left-preserved
 loop-left-preserved c =
-    let a = c.args in
+    let turn : (p : Parent) → c.climb_from.result ≡ p → (let s = c in let a = s.args in cross_offset a.a (slots a.shape a.line.now) a.i ≡ by_parent p (some (val s.loop-left.sum)) (some (val s.loop-left.sum)) (λ j. cross_offset_in (s.loop-left.left - 1) a.a (slots a.shape a.line.now) j (sat_add (val s.loop-left.sum) (offset a.a (slot (slots a.shape a.line.now) j))))) =
+    λ p e. let s = c in
+    let a = s.args in
+    s.loop-left.invariant.1
+    ∙ walk_turn a.a (slots a.shape a.line.now) s.loop-left.left s.loop-left.at (val s.loop-left.sum) (omega arith) p (sym c.climb_from.ensures ∙ e) in
+    let j = c in
+    let f = j in
+    let s = f in
+    let a = s.args in
     let l = a.line.now in
-    let to = c.in-InLine.j in (
-      omega (arith, climb_in (slots a.shape l) c.loop-left.at to (sym c.climb_from.ensures ∙ c.in-InLine.is), length_slots a.shape l),
-      turn c (InLine to) c.in-InLine.is
-          ∙ ap (cross_offset_in (c.loop-left.left - 1) a.a (slots a.shape l) to) (sym (c.sat_add-sum.ensures ∙ ap (sat_add (val c.loop-left.sum)) c.get.ensures)),
+    let to = j.in-InLine.j in (
+      omega (arith, climb_in (slots a.shape l) s.loop-left.at to (sym f.climb_from.ensures ∙ j.in-InLine.is), length_slots a.shape l),
+      turn (InLine to) j.in-InLine.is
+          ∙ ap (cross_offset_in (s.loop-left.left - 1) a.a (slots a.shape l) to) (sym (c.sat_add-sum.ensures ∙ ap (sat_add (val s.loop-left.sum)) c.get.ensures)),
     )
 
 pub returns : goal.returns

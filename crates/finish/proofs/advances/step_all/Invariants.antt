@@ -1,0 +1,19 @@
+-- After k turns the first k advances of the part have been added to both offsets or subtracted, which are held lifted. Assumes nothing.
+use mathlib.Core.Path.{◌≡◌, ◌∙◌}
+use Prim.Native.Nat.{◌-◌, ◌≤◌, ◌<◌}
+use lib.ListN.{take}
+use Rattle.ints.specs.code.Saturating.{unlifted}
+use Rattle.ints.specs.Sums.{stepwise}
+use Rattle.slots.specs.Line.{slots}
+use Rattle.slots.specs.declared.axis.Axis.TheVariants.{X, Y}
+use Rattle.finish_rules.specs.Finish.{advances, step_by}
+use Rattle.finish.proofs.advances.step_all.Given as goal
+
+abbrev pub invariant-loop-k : goal.invariant-loop-k
+invariant-loop-k l =
+    (l.n ≡ l.shape.count) × (l.k ≤ l.n) × (l.x < 4294967296) × (l.y < 4294967296)
+    × (unlifted l.x ≡ stepwise (step_by l.subtract) (unlifted l.fn.x) (take l.k (advances X (slots l.shape l.part))))
+    × (unlifted l.y ≡ stepwise (step_by l.subtract) (unlifted l.fn.y) (take l.k (advances Y (slots l.shape l.part))))
+
+abbrev pub decreases-loop-k : goal.decreases-loop-k
+decreases-loop-k l = l.n - l.k
