@@ -21,14 +21,6 @@ part_fits w v n m p e g f = rw (e, g) f
 part_is : {ss : List Slot} (w v : Shape) (n m : ℕ) (p : List ℕ) → v ≡ part_shape w n → n ≡ m → slots (part_shape w m) p ≡ ss → slots v p ≡ ss
 part_is w v n m p e g f = rw (e, g) f
 
--- the walk, once code knows whether the direction is forward, f, and whether the parent is before the slot, b: m is the part that it then takes
-walks : {m : List Slot} {x y : ℤ} (c : tie.After-is-forward) (f b : Bool) → c.is_forward.result ≡ f → (let a = c.args in
-    Side b a.i a.j → m ≡ walk_part f b (slots a.shape a.line.now) a.i a.j
-    → Stepped (subtracts b f) m (val a.from.x) (val a.from.y) x y → Walked a.d (slots a.shape a.line.now) a.i a.j (val a.from.x) (val a.from.y) x y)
-walks c f b known side is to =
-    let a = c.args in
-    walked_part a.d (slots a.shape a.line.now) a.i a.j f b (val a.from.x) (val a.from.y) (sym c.is_forward.ensures ∙ known) side is to
-
 pub step_all-requires : goal.step_all-requires
 step_all-requires c =
     let a = c.args in
@@ -37,7 +29,7 @@ step_all-requires c =
 pub returns-then-j-i : goal.returns-then-j-i
 returns-then-j-i c =
     let a = c.args in
-    walks c true true c.if-is_forward.true c.if-j-i.true (part_is a.shape _ (a.i - a.j) (a.i - a.j) _ c.part_shape.ensures (omega arith) c.slots_between.ensures.0) c.step_all.ensures
+    walked_part a.d (slots a.shape a.line.now) a.i a.j true true (val a.from.x) (val a.from.y) (sym c.is_forward.ensures ∙ c.if-is_forward.true) c.if-j-i.true (part_is a.shape _ (a.i - a.j) (a.i - a.j) _ c.part_shape.ensures (omega arith) c.slots_between.ensures.0) c.step_all.ensures
 
 pub step_all-requires-then-is_forward : goal.step_all-requires-then-is_forward
 step_all-requires-then-is_forward c =
@@ -47,7 +39,7 @@ step_all-requires-then-is_forward c =
 pub returns-then-is_forward : goal.returns-then-is_forward
 returns-then-is_forward c =
     let a = c.args in
-    walks c true false c.if-is_forward.true c.if-j-i.false (part_is a.shape _ (a.j - a.i) (a.j - a.i) _ c.part_shape-then-is_forward.ensures (omega arith) c.slots_between-then-is_forward.ensures.0) c.step_all-then-is_forward.ensures
+    walked_part a.d (slots a.shape a.line.now) a.i a.j true false (val a.from.x) (val a.from.y) (sym c.is_forward.ensures ∙ c.if-is_forward.true) c.if-j-i.false (part_is a.shape _ (a.j - a.i) (a.j - a.i) _ c.part_shape-then-is_forward.ensures (omega arith) c.slots_between-then-is_forward.ensures.0) c.step_all-then-is_forward.ensures
 
 pub step_all-requires-then-j-i-2 : goal.step_all-requires-then-j-i-2
 step_all-requires-then-j-i-2 c =
@@ -57,7 +49,7 @@ step_all-requires-then-j-i-2 c =
 pub returns-then-j-i-2 : goal.returns-then-j-i-2
 returns-then-j-i-2 c =
     let a = c.args in
-    walks c false true c.if-is_forward.false c.if-j-i-2.true (part_is a.shape _ (a.i - a.j) (a.i + 1 - (a.j + 1)) _ c.part_shape-then-j-i-2.ensures (omega arith) c.slots_between-then-j-i-2.ensures.0) c.step_all-then-j-i-2.ensures
+    walked_part a.d (slots a.shape a.line.now) a.i a.j false true (val a.from.x) (val a.from.y) (sym c.is_forward.ensures ∙ c.if-is_forward.false) c.if-j-i-2.true (part_is a.shape _ (a.i - a.j) (a.i + 1 - (a.j + 1)) _ c.part_shape-then-j-i-2.ensures (omega arith) c.slots_between-then-j-i-2.ensures.0) c.step_all-then-j-i-2.ensures
 
 pub step_all-requires-2 : goal.step_all-requires-2
 step_all-requires-2 c =
@@ -67,4 +59,4 @@ step_all-requires-2 c =
 pub returns : goal.returns
 returns c =
     let a = c.args in
-    walks c false false c.if-is_forward.false c.if-j-i-2.false (part_is a.shape _ (a.j - a.i) (a.j + 1 - (a.i + 1)) _ c.part_shape-2.ensures (omega arith) c.slots_between-2.ensures.0) c.step_all-2.ensures
+    walked_part a.d (slots a.shape a.line.now) a.i a.j false false (val a.from.x) (val a.from.y) (sym c.is_forward.ensures ∙ c.if-is_forward.false) c.if-j-i-2.false (part_is a.shape _ (a.j - a.i) (a.j + 1 - (a.i + 1)) _ c.part_shape-2.ensures (omega arith) c.slots_between-2.ensures.0) c.step_all-2.ensures

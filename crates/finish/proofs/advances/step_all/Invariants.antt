@@ -12,8 +12,8 @@ use Rattle.finish.proofs.advances.step_all.Given as goal
 abbrev pub invariant-loop-k : goal.invariant-loop-k
 invariant-loop-k l =
     (l.n ≡ l.shape.count) × (l.k ≤ l.n) × (l.x < 4294967296) × (l.y < 4294967296)
-    × (unlifted l.x ≡ stepwise (step_by l.subtract) (unlifted l.fn.x) (take l.k (advances X (slots l.shape l.part))))
-    × (unlifted l.y ≡ stepwise (step_by l.subtract) (unlifted l.fn.y) (take l.k (advances Y (slots l.shape l.part))))
+    × (unlifted l.x ≡ stepwise (step_by l.subtract) (unlifted l.initial.x) (take l.k (advances X (slots l.shape l.part))))
+    × (unlifted l.y ≡ stepwise (step_by l.subtract) (unlifted l.initial.y) (take l.k (advances Y (slots l.shape l.part))))
 
 abbrev pub decreases-loop-k : goal.decreases-loop-k
 decreases-loop-k l = l.n - l.k
