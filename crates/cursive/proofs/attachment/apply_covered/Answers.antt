@@ -25,7 +25,6 @@ pub returns-in-Join : goal.returns-in-Join
 returns-in-Join c =
     let a = c.args in
     let ss = slots a.shape a.line.now in
-    let w = c.plan-in-Join-1.given.0 in
     rw c.unsafe_to_break.ensures
-    (effect_join a.s a.u a.d a.flag a.idx (plan_of a.t.now ss a.idx a.previous) ss w.0 (point_of w.1.0) (point_of w.1.1.0) _
+    (effect_join a.s a.u a.d a.flag a.idx (plan_of a.t.now ss a.idx a.previous) ss c.in-Join.i (point_of c.in-Join.exit) (point_of c.in-Join.entry) _
     (sym (ap meant c.in-Join.is) ∙ c.plan_of-plan.ensures.0) c.join.ensures)

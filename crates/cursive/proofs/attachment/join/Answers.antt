@@ -8,5 +8,5 @@ pub returns : goal.returns
 returns c =
     let a = c.args in
     joined_is a.s a.u a.d a.flag a.i a.idx (point_of a.exit) (point_of a.entry) (slots a.shape a.line.now) c.main_axis-along.ensures
-    c.cross_axis-across.ensures c.Scaled-at.ensures c.join_previous.ensures c.scaled_at-2.ensures c.join_this.ensures
+    c.cross_axis-across.ensures c.scaled_at.ensures c.join_previous.ensures c.scaled_at-2.ensures c.join_this.ensures
     c.scaled_at-3.ensures c.scaled_at-4.ensures c.cross_over.ensures

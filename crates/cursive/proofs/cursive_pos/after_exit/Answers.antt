@@ -6,11 +6,10 @@ use Rattle.cursive.proofs.PlanLaws.{told}
 use Rattle.cursive.proofs.cursive_pos.after_exit.Goals as goal
 
 pub returns-in-At : goal.returns-in-At
-returns-in-At c =
-    let e = c.in-At.is in (
-      told (λ x. after_exit c.args.idx c.args.i (point_of c.args.entry) (anchor_point x)) e refl,
-      (c.requires.0, (subst AnchorNear e c.requires.3, c.requires.2)),
-    )
+returns-in-At c = (
+  told (λ x. after_exit c.args.idx c.args.i (point_of c.args.entry) (anchor_point x)) c.in-At.is refl,
+  (c.requires.0, (subst AnchorNear c.in-At.is c.requires.3, c.requires.2)),
+)
 
 pub returns-in-Absent : goal.returns-in-Absent
 returns-in-Absent c =
