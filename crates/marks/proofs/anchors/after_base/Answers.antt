@@ -7,5 +7,4 @@ use Rattle.marks.proofs.anchors.after_base.Goals as goal
 
 pub returns-in-At : goal.returns-in-At
 returns-in-At c =
-    let e = c.in-At.is in
-    (sym (ap (λ (x : Anchor). after_base (point_of c.args.mark) (anchor_point x)) e), (subst AnchorNear e c.requires.1, c.requires.0))
+    (sym (ap (λ (x : Anchor). after_base (point_of c.args.mark) (anchor_point x)) c.in-At.is), (subst AnchorNear c.in-At.is c.requires.1, c.requires.0))

@@ -20,7 +20,7 @@ returns-in_default c =
     let a = c.args in
     let ss = slots a.shape a.line.now in (
       anchors_rowless a.target a.t.now a.k a.m (slot ss a.idx) (slot ss a.b) c.row_table-rows.result.now c.row_table-rows.ensures
-          c.read_u16-columns.result c.read_u16-columns.ensures.0 c.rows_of_lem.result c.rows_of_lem.ensures c.in-Of.n c.in-Of.is
+          c.read_u16-columns.result c.read_u16-columns.ensures.0 c.rows_of.result c.rows_of.ensures c.in-Of.n c.in-Of.is
           c.row_for-found.ensures (ap row_of c.in_default.is),
       tt,
     )
@@ -31,11 +31,10 @@ read_u16-requires c =
 
 pub after_mark-requires : goal.after_mark-requires
 after_mark-requires c =
-    let known = c.shared_slice_known-2-1.given in
     let a = c.args in
     let few = rows_few c.row_table-rows.result.now c.read_u16-columns.result c.in-Of.n
-    (subst AllBytes (sym c.row_table-rows.ensures) (rows_bytes a.target a.t.now a.k (λ k. (known k).fits)))
-    (sym c.rows_of_lem.ensures ∙ c.in-Of.is) in
+    (subst AllBytes (sym c.row_table-rows.ensures) (rows_bytes a.target a.t.now a.k (λ k. (c.shared_slice_known-2-1.given k).fits)))
+    (sym c.rows_of.ensures ∙ c.in-Of.is) in
     (few, search rules, c.mark_of.ensures.1)
 
 pub returns-in-Absent : goal.returns-in-Absent
@@ -43,7 +42,7 @@ returns-in-Absent c =
     let a = c.args in
     let ss = slots a.shape a.line.now in (
       anchors_cut a.target a.t.now a.k a.m (slot ss a.idx) (slot ss a.b) c.row_table-rows.result.now c.row_table-rows.ensures
-          c.read_u16-columns.result c.read_u16-columns.ensures.0 c.rows_of_lem.result c.rows_of_lem.ensures c.in-Absent.is,
+          c.read_u16-columns.result c.read_u16-columns.ensures.0 c.rows_of.result c.rows_of.ensures c.in-Absent.is,
       tt,
     )
 
@@ -53,7 +52,7 @@ returns-in-Of-found c =
     let ss = slots a.shape a.line.now in (
       c.after_mark.ensures.0
           ∙ anchors_with a.target a.t.now a.k a.m (slot ss a.idx) (slot ss a.b) c.row_table-rows.result.now c.row_table-rows.ensures
-          c.read_u16-columns.result c.read_u16-columns.ensures.0 c.rows_of_lem.result c.rows_of_lem.ensures c.in-Of.n c.in-Of.is
+          c.read_u16-columns.result c.read_u16-columns.ensures.0 c.rows_of.result c.rows_of.ensures c.in-Of.n c.in-Of.is
           c.row_for-found.ensures c.in-Of-found.row (ap row_of c.in-Of-found.is) c.read_u16.result c.read_u16.ensures.0
           c.table_at-marks.result.now c.table_at-marks.ensures (mark_anchor c.mark_of.result) c.mark_of.ensures.0,
       c.after_mark.ensures.1,

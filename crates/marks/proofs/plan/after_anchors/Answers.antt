@@ -14,10 +14,9 @@ after_walk-requires c =
 
 pub returns-in-Both : goal.returns-in-Both
 returns-in-Both c =
-    let a = c.args in
-    let b = c.anchors-1.given.0 in (
+    let a = c.args in (
       c.after_walk.ensures.0
-          ∙ ap (after_walk a.b (point_of b.0) (point_of b.1.0)) c.cross_offset.ensures
+          ∙ ap (after_walk a.b (point_of c.in-Both.base) (point_of c.in-Both.mark)) c.cross_offset.ensures
           ∙ sym (ap (λ (x : Anchors). after_anchors a.a (slots a.shape a.line.now) a.idx a.b (anchors_of x)) c.in-Both.is),
       c.after_walk.ensures.1,
     )
