@@ -102,7 +102,7 @@ fn search_call(
     k: usize,
 ) -> Called
     requires searches { Searches target shape line.old t.now s u i (get_or memory.until k 0) (get_or memory.found k 0) }
-    requires k_lt_most_subtables { (k < most_subtables) × (cover_at t.now (slots shape line.old) i ≡ Index m) }
+    requires covered { (k < most_subtables) × (cover_at t.now (slots shape line.old) i ≡ Index m) }
     ensures { MadeOn (mark_attachment (Search target) t.now d s u i) (slots shape line.old)
         (said result.answer) (slots shape line.new)
         × (result.memory ≡ with_searched memory k i

@@ -37,8 +37,8 @@ pub fn next_covered(
     k: usize,
     start: usize,
 ) -> Place
-    requires fits { Fits shape line.now × (k ≤ length lengths.now) × (start ≡ total (take k lengths.now)) }
-    requires lengths_value { (total lengths.now ≡ length subtables.now) × AllReadable subtables.now lengths.now }
+    requires placed { Fits shape line.now × (k ≤ length lengths.now) × (start ≡ total (take k lengths.now)) }
+    requires readable { (total lengths.now ≡ length subtables.now) × AllReadable subtables.now lengths.now }
     ensures { result ≡ next_place (slots shape line.now) subtables.now lengths.now
         i k start }
 {

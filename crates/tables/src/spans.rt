@@ -44,9 +44,9 @@ pub fn ascending(t: &[u8], stride: usize, over: usize, count: usize) -> bool
 
 // The number of the span that holds the glyph, and `count` where none does: by halves.
 pub fn seek(t: &[u8], stride: usize, over: usize, count: usize, glyph: u32) -> usize
-    requires over_bound { (over + 2 ≤ stride) × (stride ≤ range_record_size) × (count < whole16)
+    requires whole { (over + 2 ≤ stride) × (stride ≤ range_record_size) × (count < whole16)
         × (span_place stride count ≤ length t.now) }
-    requires count_value { ascends 0 (spans t.now stride over count) ≡ true }
+    requires ascending { ascends 0 (spans t.now stride over count) ≡ true }
     ensures { (result ≡ first_holding (spans t.now stride over count) glyph) × (result ≤ count) }
 {
     let mut lo = 0;

@@ -72,7 +72,7 @@ seek-k-requires c =
     λ e. c.if-read_u16-eq1.false (c.read_u16.ensures.0 ∙ e) in
     let ranges : Sound c.args.t.now 6 2 c.read_u16-count-2.result =
     ranges_sound c.args.t.now _ c.requires c.read_u16-count-2.result c.read_u16-count-2.ensures.0 two in
-    record { over_bound = (omega arith, omega arith, omega arith, ranges.whole); count_value = ranges.up }
+    record { whole = (omega arith, omega arith, omega arith, ranges.whole); ascending = ranges.up }
 
 pub read_u16-requires-then-k-count-2 : goal.read_u16-requires-then-k-count-2
 read_u16-requires-then-k-count-2 c =

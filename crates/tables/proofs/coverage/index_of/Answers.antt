@@ -20,7 +20,7 @@ seek-k-requires c =
     sym c.read_u16.ensures.0 ∙ c.if-read_u16-eq1.true in
     let glyphs : Sound c.args.t.now 2 0 c.read_u16-count.result =
     glyphs_sound c.args.t.now c.requires.1 c.read_u16-count.result c.read_u16-count.ensures.0 one in
-    record { over_bound = (omega arith, omega arith, omega arith, glyphs.whole); count_value = glyphs.up }
+    record { whole = (omega arith, omega arith, omega arith, glyphs.whole); ascending = glyphs.up }
 
 pub returns-then-k-count : goal.returns-then-k-count
 returns-then-k-count c =
@@ -40,7 +40,7 @@ seek-k-requires-2 c =
     λ e. c.if-read_u16-eq1.false (c.read_u16.ensures.0 ∙ e) in
     let ranges : Sound c.args.t.now 6 2 c.read_u16-count.result =
     ranges_sound c.args.t.now _ c.requires.1 c.read_u16-count.result c.read_u16-count.ensures.0 two in
-    record { over_bound = (omega arith, omega arith, omega arith, ranges.whole); count_value = ranges.up }
+    record { whole = (omega arith, omega arith, omega arith, ranges.whole); ascending = ranges.up }
 
 pub read_u16-start-requires : goal.read_u16-start-requires
 read_u16-start-requires c =

@@ -51,7 +51,7 @@ loop-lo-smaller-then-glyph-first c = omega arith
 pub loop-lo-preserved-then-glyph-first : goal.loop-lo-preserved-then-glyph-first
 unfolding span_at
 loop-lo-preserved-then-glyph-first c =
-    go_down (span_at c.args.t.now c.args.stride c.args.over) c.args.count c.args.glyph _ _ (ascends_apart (span_at c.args.t.now c.args.stride c.args.over) c.args.count 0 0 c.requires.count_value) c.loop-lo.invariant (c.loop-lo.lo + (c.loop-lo.hi - c.loop-lo.lo) / 2) (omega arith) (omega arith)
+    go_down (span_at c.args.t.now c.args.stride c.args.over) c.args.count c.args.glyph _ _ (ascends_apart (span_at c.args.t.now c.args.stride c.args.over) c.args.count 0 0 c.requires.ascending) c.loop-lo.invariant (c.loop-lo.lo + (c.loop-lo.hi - c.loop-lo.lo) / 2) (omega arith) (omega arith)
     (omega (arith, c.read_u16-first.ensures.0))
 
 pub overflow_add-lo : goal.overflow_add-lo
@@ -63,17 +63,17 @@ loop-lo-smaller c = omega arith
 pub loop-lo-preserved : goal.loop-lo-preserved
 unfolding span_at
 loop-lo-preserved c =
-    go_up (span_at c.args.t.now c.args.stride c.args.over) c.args.count c.args.glyph _ _ (ascends_apart (span_at c.args.t.now c.args.stride c.args.over) c.args.count 0 0 c.requires.count_value) c.loop-lo.invariant (c.loop-lo.lo + (c.loop-lo.hi - c.loop-lo.lo) / 2) (omega arith) (omega arith)
+    go_up (span_at c.args.t.now c.args.stride c.args.over) c.args.count c.args.glyph _ _ (ascends_apart (span_at c.args.t.now c.args.stride c.args.over) c.args.count 0 0 c.requires.ascending) c.loop-lo.invariant (c.loop-lo.lo + (c.loop-lo.hi - c.loop-lo.lo) / 2) (omega arith) (omega arith)
     (omega (arith, c.read_u16-last.ensures.0))
 
 pub returns-else-last-glyph : goal.returns-else-last-glyph
 unfolding span_at
 returns-else-last-glyph c = (
-  halves_find (span_at c.args.t.now c.args.stride c.args.over) c.args.count c.args.glyph (c.loop-lo.lo + (c.loop-lo.hi - c.loop-lo.lo) / 2) c.requires.count_value
+  halves_find (span_at c.args.t.now c.args.stride c.args.over) c.args.count c.args.glyph (c.loop-lo.lo + (c.loop-lo.hi - c.loop-lo.lo) / 2) c.requires.ascending
       (here (omega arith) (omega (arith, c.read_u16-first.ensures.0)) (omega (arith, c.read_u16-last.ensures.0))),
   omega arith,
 )
 
 pub returns : goal.returns
 returns c =
-    (halves_find (span_at c.args.t.now c.args.stride c.args.over) c.args.count c.args.glyph _ c.requires.count_value (nowhere c.loop-lo.invariant c.loop-lo-test.false), omega arith)
+    (halves_find (span_at c.args.t.now c.args.stride c.args.over) c.args.count c.args.glyph _ c.requires.ascending (nowhere c.loop-lo.invariant c.loop-lo-test.false), omega arith)
