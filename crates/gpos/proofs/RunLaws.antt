@@ -4,7 +4,7 @@ use mathlib.Core.Path.{◌≡◌, refl, sym, ap, ap₂, subst, ◌∙◌}
 use mathlib.Core.Bool.{Bool, true, false}
 use mathlib.Core.List.{List, [], ◌∷◌, ◌++◌, map}
 use mathlib.Core.Option.{Option, some, none, none-ne-some}
-use Prim.Native.Nat.{ℕ, zero, suc, zero-le, ◌+◌, ◌*◌, ◌/◌, ◌^◌, ◌≤◌, ◌<◌}
+use Prim.Native.Nat.{ℕ, zero, suc, zero-le, ◌+◌, ◌-◌, ◌*◌, ◌/◌, ◌^◌, ◌≤◌, ◌<◌}
 use native.Mathlib.Nat.{add_assoc, add-zero, mul_assoc, mul-le-mul_right, suc-mul, suc-ne-zero, zero-add, zero-mul}
 use native.Mathlib.Omega.{arith}
 use borrow.Author.Tests.{eq-eqb, eqb-false, eqb-true, lt-ltb, ltb-false, ne_eqb}
@@ -292,6 +292,7 @@ pub record TurnRun (kind : Kind) (g : Settings) (b lens l : List ℕ) (st : Stat
   pub recorded : records t.records ≡ map record_of hazards
   pub few_hazards : length hazards + rest * 2 ≤ calls * 2
   pub fewer : t.next.code ≡ 0 → rest < calls
+  pub nearer : t.next.code ≡ 0 → count g.size l * length lens - (t.next.index * length lens + t.next.subtable) < count g.size l * length lens - (st.index * length lens + st.subtable)
   pub steps : t.next.code ≡ 0 → count g.size l * length lens ≤ rest + (t.next.index * length lens + t.next.subtable)
   pub told : t.next.lookup ≡ st.lookup
   pub proper : Proper t.next.end
@@ -349,6 +350,7 @@ module _ (g : Settings) (line₀ b lens : List ℕ) (kind : Kind) (direction-goo
           recorded = records_are g line₀ b lens kind direction-good scale-good l as_long here told ok;
           few_hazards = omega (arith, few_hazards g line₀ b lens kind direction-good scale-good l as_long here told ok, r.not_more, z);
           fewer = λ on. omega (arith, r.not_more, z);
+          nearer = λ on. omega (arith, r.not_more, r.fewer, before_end, further g line₀ b lens kind direction-good scale-good l as_long here told ok on);
           steps = λ on. omega (arith, z, r.fewer, enough, further g line₀ b lens kind direction-good scale-good l as_long here told ok on);
           told = told_next g line₀ b lens kind direction-good scale-good l as_long here told ok;
           proper = proper_next g line₀ b lens kind direction-good scale-good l as_long here told ok;
@@ -369,6 +371,7 @@ module _ (g : Settings) (line₀ b lens : List ℕ) (kind : Kind) (direction-goo
             recorded = refl;
             few_hazards = omega arith;
             fewer = λ z. absurd (suc-ne-zero _ z);
+            nearer = λ z. absurd (suc-ne-zero _ z);
             steps = λ z. absurd (suc-ne-zero _ z);
             told = refl;
             proper = tt;
@@ -397,19 +400,17 @@ pub record Idle (line₀ : List ℕ) (list₀ : List HazardRecord) (st₀ : Stat
   pub line_kept : line ≡ line₀
   pub list_kept : list ≡ list₀
 
--- `left` turns are left at most, with `calls` calls
-pub record Loop (g : Settings) (line₀ b lens : List ℕ) (list₀ : List HazardRecord) : Type 0 where
-  pub left : ℕ
+-- how many turns a run takes at most from here on
+abbrev pub turns_left : Settings → (line₀ lens : List ℕ) → State → ℕ
+turns_left g line₀ lens st =
+    if eqb st.code 0 then suc (count g.size line₀ * length lens - (st.index * length lens + st.subtable)) else 0
+
+-- what holds at each turn, with `calls` calls left at most
+pub record Loop (g : Settings) (line₀ b lens : List ℕ) (list₀ : List HazardRecord) (at : ℕ) (line : List ℕ) (list : List HazardRecord) (st : State) : Type 0 where
   pub calls : ℕ
-  pub at : ℕ
-  pub line : List ℕ
-  pub list : List HazardRecord
-  pub st : State
-  pub more_turns : st.code ≡ 0 → calls < left
   pub at_most : at ≤ length list₀
   pub line_len : length line ≡ length line₀
   pub list_len : length list ≡ length list₀
-  pub bytes : AllBytes line
   pub idle : ((begun line₀ b lens (length list₀) g).code ≡ 0 → ⊥) → Idle line₀ list₀ (begun line₀ b lens (length list₀) g) at line list st
   pub going : (begun line₀ b lens (length list₀) g).code ≡ 0 → (kind : Kind) → kind_of g.kind ≡ some kind → Going g line₀ b lens list₀ kind calls at line list st
 
@@ -490,26 +491,19 @@ module _ (g : Settings) (line₀ b lens : List ℕ) (list₀ : List HazardRecord
               ∙ subst (λ (n : ℕ). stage_of n (length lens) (first_state (lookup_of kind g line₀) (line_slots g.size line₀)) ≡ comes_to n 0 false) (length_slots (shape_of g.size line₀) line₀)
               (first_stage (lookup_of kind g line₀) (line_slots g.size line₀) (length lens) (is_fit g line₀ b lens (length list₀) said_done_lem).one))
 
-  module _ (line_fits : length line₀ < 2 ^ 64) (list-fits : length list₀ < 2 ^ 64) (line-bytes : AllBytes line₀) (sub-bytes : AllBytes b) (lens-fit : (k : ℕ) → get_or lens k 0 < 2 ^ 64) where
-    abbrev pub start : Loop g line₀ b lens list₀
-    start = record {
-      left = n₀ * length tables + 1;
-      calls = n₀ * length tables;
-      at = 0;
-      line = line₀;
-      list = list₀;
-      st = st₀;
-      more_turns = λ e. omega arith;
-      at_most = zero-le;
-      line_len = refl;
-      list_len = refl;
-      bytes = line-bytes;
-      idle = λ _. record { same_state = refl; no_records = refl; line_kept = refl; list_kept = refl };
-      going = first_going;
-    }
+  pub start : Loop g line₀ b lens list₀ 0 line₀ list₀ st₀
+  start =
+      record {
+        calls = n₀ * length tables;
+        at_most = zero-le;
+        line_len = refl;
+        list_len = refl;
+        idle = λ _. record { same_state = refl; no_records = refl; line_kept = refl; list_kept = refl };
+        going = first_going;
+      }
 
   -- ---- a turn
-  module _ (t : Loop g line₀ b lens list₀) (h : t.st.code ≡ 0) where
+  module _ {at : ℕ} {line : List ℕ} {list : List HazardRecord} {st : State} (t : Loop g line₀ b lens list₀ at line list st) (h : st.code ≡ 0) where
     pub began : st₀.code ≡ 0
     began = go (eqb st₀.code 0) refl
       where
@@ -520,43 +514,40 @@ module _ (g : Settings) (line₀ b lens : List ℕ) (list₀ : List HazardRecord
     abbrev kind₀ : Kind
     kind₀ = (its_kind began).kind
 
-    pub now_going : Going g line₀ b lens list₀ kind₀ t.calls t.at t.line t.list t.st
+    pub now_going : Going g line₀ b lens list₀ kind₀ t.calls at line list st
     now_going = t.going began kind₀ (its_kind began).is
 
-    pub fine : Fine t.line b lens t.st
+    pub fine : Fine line b lens st
     fine = now_going.can_go h
 
-    pub more : 0 < t.left
-    more = omega (arith, t.more_turns h)
-
     -- what it comes to
-    pub turn_comes : (kind : Kind) → (now : Going g line₀ b lens list₀ kind t.calls t.at t.line t.list t.st)
-        → TurnRun kind g b lens t.line t.st t.calls (turn_of t.line b lens t.st) (line_of t.line b lens t.st)
+    pub turn_comes : (kind : Kind) → (now : Going g line₀ b lens list₀ kind t.calls at line list st)
+        → TurnRun kind g b lens line st t.calls (turn_of line b lens st) (line_of line b lens st)
     turn_comes kind now =
-        turn_run g line₀ b lens kind (direction_good₀ began) (scale_good₀ began) t.line t.line_len t.st now.told (now.can_go h) t.calls
-        (subst (λ (x : ℕ). x / g.size * length lens ≤ t.calls + (t.st.index * length lens + t.st.subtable)) (sym t.line_len) (now.steps h))
+        turn_run g line₀ b lens kind (direction_good₀ began) (scale_good₀ began) line t.line_len st now.told (now.can_go h) t.calls
+        (subst (λ (x : ℕ). x / g.size * length lens ≤ t.calls + (st.index * length lens + st.subtable)) (sym t.line_len) (now.steps h))
 
-    pub enough : t.at + length (records (turn_of t.line b lens t.st).records) ≤ length t.list
+    pub enough : at + length (records (turn_of line b lens st).records) ≤ length list
     enough =
         let r = turn_comes kind₀ now_going in
         omega (arith, ap length r.recorded, length-map r.hazards record_of, r.few_hazards, now_going.space h, t.list_len)
 
-  module _ (t : Loop g line₀ b lens list₀) (k : ℕ) (e : t.left ≡ suc k) (h : t.st.code ≡ 0) (next-bytes : AllBytes (line_of t.line b lens t.st))
-      (next-can-go : Next (line_of t.line b lens t.st) b lens (turn_of t.line b lens t.st).next) where
+  module _ {at : ℕ} {line : List ℕ} {list : List HazardRecord} {st : State} (t : Loop g line₀ b lens list₀ at line list st) (h : st.code ≡ 0)
+      (next-can-go : Next (line_of line b lens st) b lens (turn_of line b lens st).next) where
     abbrev q : Turned
-    q = turn_of t.line b lens t.st
+    q = turn_of line b lens st
 
     abbrev rs : List HazardRecord
     rs = records q.records
 
     abbrev line' : List ℕ
-    line' = line_of t.line b lens t.st
+    line' = line_of line b lens st
 
-    abbrev comes : TurnRun (kind₀ t h) g b lens t.line t.st t.calls q line'
+    abbrev comes : TurnRun (kind₀ t h) g b lens line st t.calls q line'
     comes = turn_comes t h (kind₀ t h) (now_going t h)
 
-    next_going : (kind : Kind) → Going g line₀ b lens list₀ kind t.calls t.at t.line t.list t.st → (r : TurnRun kind g b lens t.line t.st t.calls q line')
-        → Going g line₀ b lens list₀ kind r.rest (t.at + length rs) line' (set_all t.list t.at rs) q.next
+    next_going : (kind : Kind) → Going g line₀ b lens list₀ kind t.calls at line list st → (r : TurnRun kind g b lens line st t.calls q line')
+        → Going g line₀ b lens list₀ kind r.rest (at + length rs) line' (set_all list at rs) q.next
     next_going kind now r =
         record {
           told = r.told ∙ now.told;
@@ -565,13 +556,13 @@ module _ (g : Settings) (line₀ b lens : List ℕ) (list₀ : List HazardRecord
           steps = λ z. subst (λ (x : ℕ). x / g.size * length lens ≤ r.rest + (q.next.index * length lens + q.next.subtable)) t.line_len (r.steps z);
           space = λ z. omega (arith, ap length r.recorded, length-map hs record_of, now.space h, r.few_hazards);
           same_count =
-              add_assoc t.at (length rs) (length rest.found) ∙ ap (λ (n : ℕ). t.at + (n + length rest.found)) (ap length r.recorded ∙ length-map hs record_of)
-              ∙ ap (λ (n : ℕ). t.at + n) (sym (length-append hs rest.found)) ∙ ap (λ (x : Run). t.at + length x.found) (sym is_run) ∙ now.same_count;
+              add_assoc at (length rs) (length rest.found) ∙ ap (λ (n : ℕ). at + (n + length rest.found)) (ap length r.recorded ∙ length-map hs record_of)
+              ∙ ap (λ (n : ℕ). at + n) (sym (length-append hs rest.found)) ∙ ap (λ (x : Run). at + length x.found) (sym is_run) ∙ now.same_count;
           same_list =
-              set_all-++ t.list t.at rs (map record_of rest.found)
-              ∙ ap (λ (x : List HazardRecord). set_all t.list t.at (x ++ map record_of rest.found)) r.recorded
-              ∙ ap (set_all t.list t.at) (sym (map_append hs rest.found))
-              ∙ ap (λ (x : Run). set_all t.list t.at (map record_of x.found)) (sym is_run) ∙ now.same_list;
+              set_all-++ list at rs (map record_of rest.found)
+              ∙ ap (λ (x : List HazardRecord). set_all list at (x ++ map record_of rest.found)) r.recorded
+              ∙ ap (set_all list at) (sym (map_append hs rest.found))
+              ∙ ap (λ (x : Run). set_all list at (map record_of x.found)) (sym is_run) ∙ now.same_list;
           same_line = ap (λ (x : Run). x.line) (sym is_run) ∙ now.same_line;
           same_last = ap (λ (x : Run). x.last) (sym is_run) ∙ now.same_last;
         }
@@ -582,64 +573,71 @@ module _ (g : Settings) (line₀ b lens : List ℕ) (list₀ : List HazardRecord
         rest : Run
         rest = run_in kind g tables r.rest line' (stage_of n₀ (length lens) q.next)
 
-        is_run : run_in kind g tables t.calls t.line (stage_of n₀ (length lens) t.st) ≡ before hs rest
+        is_run : run_in kind g tables t.calls line (stage_of n₀ (length lens) st) ≡ before hs rest
         is_run =
-            subst (λ (x : ℕ). run_in kind g tables t.calls t.line (stage_of (x / g.size) (length lens) t.st) ≡ before hs (run_in kind g tables r.rest line' (stage_of (x / g.size) (length lens) q.next)))
+            subst (λ (x : ℕ). run_in kind g tables t.calls line (stage_of (x / g.size) (length lens) st) ≡ before hs (run_in kind g tables r.rest line' (stage_of (x / g.size) (length lens) q.next)))
             t.line_len r.is_run
 
-    pub going_next : st₀.code ≡ 0 → (kind : Kind) → kind_of g.kind ≡ some kind → Going g line₀ b lens list₀ kind comes.rest (t.at + length rs) line' (set_all t.list t.at rs) q.next
+    pub going_next : st₀.code ≡ 0 → (kind : Kind) → kind_of g.kind ≡ some kind → Going g line₀ b lens list₀ kind comes.rest (at + length rs) line' (set_all list at rs) q.next
     going_next _ kind is =
-        subst (λ (x : Kind). Going g line₀ b lens list₀ x comes.rest (t.at + length rs) line' (set_all t.list t.at rs) q.next)
+        subst (λ (x : Kind). Going g line₀ b lens list₀ x comes.rest (at + length rs) line' (set_all list at rs) q.next)
         (only (kind₀ t h) kind (sym (its_kind (began t h)).is ∙ is)) (next_going (kind₀ t h) (now_going t h) comes)
 
-    abbrev pub next : Loop g line₀ b lens list₀
-    next = record {
-      left = k;
-      calls = comes.rest;
-      at = t.at + length rs;
-      line = line';
-      list = set_all t.list t.at rs;
-      st = q.next;
-      more_turns = λ on. omega (arith, e, t.more_turns h, comes.fewer on);
-      at_most = omega (arith, enough t h, t.list_len);
-      line_len = turn_length (fine t h) ∙ t.line_len;
-      list_len = length_set_all t.list t.at rs ∙ t.list_len;
-      bytes = next-bytes;
-      idle = λ not. absurd (not (began t h));
-      going = going_next;
-    }
+    pub next : Loop g line₀ b lens list₀ (at + length rs) line' (set_all list at rs) q.next
+    next =
+        record {
+          calls = comes.rest;
+          at_most = omega (arith, enough t h, t.list_len);
+          line_len = turn_length (fine t h) ∙ t.line_len;
+          list_len = length_set_all list at rs ∙ t.list_len;
+          idle = λ not. absurd (not (began t h));
+          going = going_next;
+        }
+
+    -- and it is nearer to the end
+    pub turns_fall : turns_left g line₀ lens q.next < turns_left g line₀ lens st
+    turns_fall = fall (eqb q.next.code 0) refl
+      where
+        now_left : turns_left g line₀ lens st ≡ suc (n₀ * length lens - (st.index * length lens + st.subtable))
+        now_left = ap (λ (z : Bool). if z then suc (n₀ * length lens - (st.index * length lens + st.subtable)) else 0) (eq-eqb st.code 0 h)
+
+        fall : (z : Bool) → eqb q.next.code 0 ≡ z → (if z then suc (n₀ * length lens - (q.next.index * length lens + q.next.subtable)) else 0) < turns_left g line₀ lens st
+        fall true e =
+            let near = subst (λ (x : ℕ). x / g.size * length lens - (q.next.index * length lens + q.next.subtable) < x / g.size * length lens - (st.index * length lens + st.subtable)) t.line_len (comes.nearer (eqb-true q.next.code 0 e)) in
+            omega (arith, near, now_left)
+        fall false e = omega (arith, now_left)
 
   -- ---- what it comes to
   -- once the state stops, the run of the definition is over
-  module _ (t : Loop g line₀ b lens list₀) (f : t.st.code ≡ 0 → ⊥) where
-    stands : (kind : Kind) → run_in kind g tables t.calls t.line (stage_of n₀ (length lens) t.st) ≡ standing t.line (stage_at t.st.end t.st)
-    stands kind = ap (λ (z : Bool). run_in kind g tables t.calls t.line (stage_by n₀ (length lens) z t.st)) (ne_eqb t.st.code 0 f) ∙ run_over kind g tables t.calls t.line t.st.end t.st
+  module _ {at : ℕ} {line : List ℕ} {list : List HazardRecord} {st : State} (t : Loop g line₀ b lens list₀ at line list st) (f : st.code ≡ 0 → ⊥) where
+    stands : (kind : Kind) → run_in kind g tables t.calls line (stage_of n₀ (length lens) st) ≡ standing line (stage_at st.end st)
+    stands kind = ap (λ (z : Bool). run_in kind g tables t.calls line (stage_by n₀ (length lens) z st)) (ne_eqb st.code 0 f) ∙ run_over kind g tables t.calls line st.end st
 
     -- of a run that began
     module _ (began : st₀.code ≡ 0) where
       abbrev kind₁ : Kind
       kind₁ = (its_kind began).kind
 
-      now₁ : Going g line₀ b lens list₀ kind₁ t.calls t.at t.line t.list t.st
+      now₁ : Going g line₀ b lens list₀ kind₁ t.calls at line list st
       now₁ = t.going began kind₁ (its_kind began).is
 
-      count_same : t.at ≡ length (all kind₁).found
-      count_same = sym (add-zero t.at) ∙ ap (λ (x : Run). t.at + length x.found) (sym (stands kind₁)) ∙ now₁.same_count
+      count_same : at ≡ length (all kind₁).found
+      count_same = sym (add-zero at) ∙ ap (λ (x : Run). at + length x.found) (sym (stands kind₁)) ∙ now₁.same_count
 
-      last_same : stage_at t.st.end t.st ≡ (all kind₁).last
+      last_same : stage_at st.end st ≡ (all kind₁).last
       last_same = ap (λ (x : Run). x.last) (sym (stands kind₁)) ∙ now₁.same_last
 
-      list_same : t.list ≡ map record_of (all kind₁).found ++ drop (length (all kind₁).found) list₀
+      list_same : list ≡ map record_of (all kind₁).found ++ drop (length (all kind₁).found) list₀
       unfolding set_all
       list_same =
-          ap (λ (x : Run). set_all t.list t.at (map record_of x.found)) (sym (stands kind₁)) ∙ now₁.same_list
+          ap (λ (x : Run). set_all list at (map record_of x.found)) (sym (stands kind₁)) ∙ now₁.same_list
           ∙ front list₀ (map record_of (all kind₁).found) (omega (arith, length-map (all kind₁).found record_of, count_same, t.at_most))
           ∙ ap (λ (n : ℕ). map record_of (all kind₁).found ++ drop n list₀) (length-map (all kind₁).found record_of)
 
-      over_begun : LookupCall g line₀ b lens list₀ (ending_of t.st t.at) t.line t.list
+      over_begun : LookupCall g line₀ b lens list₀ (ending_of st at) line list
       over_begun =
           record {
-            answer = end_said t.st.end now₁.proper t.st t.at ∙ ap₂ said_at last_same count_same ∙ sym (ap₂ (λ (s : Said) (o : Option Kind). run_said s (run_for o g tables line₀)) (said_done_lem began) (its_kind began).is);
+            answer = end_said st.end now₁.proper st at ∙ ap₂ said_at last_same count_same ∙ sym (ap₂ (λ (s : Said) (o : Option Kind). run_said s (run_for o g tables line₀)) (said_done_lem began) (its_kind began).is);
             line = ap (λ (x : Run). x.line) (sym (stands kind₁)) ∙ now₁.same_line ∙ sym (ap₂ (λ (s : Said) (o : Option Kind). run_line s (run_for o g tables line₀) line₀) (said_done_lem began) (its_kind began).is);
             list_is = list_same ∙ sym (ap₂ (λ (s : Said) (o : Option Kind). run_list s (run_for o g tables line₀) list₀) (said_done_lem began) (its_kind began).is);
           }
@@ -680,10 +678,10 @@ module _ (g : Settings) (line₀ b lens : List ℕ) (list₀ : List HazardRecord
   not_begun_lem (applied n hs a) e o is not = absurd (never_applied all_tests n hs a e)
   not_begun_lem (declined hs) e o is not = absurd (never_declined all_tests hs e)
 
-  pub over : (t : Loop g line₀ b lens list₀) → (t.st.code ≡ 0 → ⊥) → LookupCall g line₀ b lens list₀ (ending_of t.st t.at) t.line t.list
-  over t f = go (eqb st₀.code 0) refl
+  pub over : {at : ℕ} {line : List ℕ} {list : List HazardRecord} {st : State} (t : Loop g line₀ b lens list₀ at line list st) → (st.code ≡ 0 → ⊥) → LookupCall g line₀ b lens list₀ (ending_of st at) line list
+  over {at = at} {line = line} {list = list} {st = st} t f = go (eqb st₀.code 0) refl
     where
-      go : (z : Bool) → eqb st₀.code 0 ≡ z → LookupCall g line₀ b lens list₀ (ending_of t.st t.at) t.line t.list
+      go : (z : Bool) → eqb st₀.code 0 ≡ z → LookupCall g line₀ b lens list₀ (ending_of st at) line list
       go true e = over_begun t f (eqb-true st₀.code 0 e)
       go false e =
           let i = t.idle (eqb-false st₀.code 0 e) in
