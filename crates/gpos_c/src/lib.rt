@@ -1,5 +1,5 @@
-// The calls of gpos for C and for other languages, as include/gpos.h declares them. Each calls its namesake and lays
-// the answer out as numbers.
+// The calls of gpos as C and other languages know them (include/gpos.h): each calls its namesake and lays the answer
+// out as numbers. The crate gpos_c_c exports them.
 #![tactic(auto)]
 
 mod layout;
@@ -21,15 +21,13 @@ pub use layout::{CAnswer, CRan, laid};
 use layout::{done_number, is_set, moved_number, neighbour_of, ran_to_c, settings_of, to_c};
 use records::HazardRecord;
 
-#[unsafe(no_mangle)]
-pub extern "C" fn gpos_start(line: &mut [u8], size: usize) -> u32
+pub fn gpos_start(line: &mut [u8], size: usize) -> u32
     ensures { IsLayoutOf done_number (λ d. StartCall size line.old d line.new) result }
 {
     done_number(gpos::start(line, size))
 }
 
-#[unsafe(no_mangle)]
-pub extern "C" fn gpos_finish(
+pub fn gpos_finish(
     line: &mut [u8],
     size: usize,
     direction: u32,
@@ -42,8 +40,7 @@ pub extern "C" fn gpos_finish(
     done_number(gpos::finish(line, size, direction, limit, is_set(attachments)))
 }
 
-#[unsafe(no_mangle)]
-pub extern "C" fn gpos_single(
+pub fn gpos_single(
     line: &mut [u8],
     size: usize,
     subtable: &[u8],
@@ -58,8 +55,7 @@ pub extern "C" fn gpos_single(
     to_c(gpos::single(line, size, subtable, direction, s, u, index))
 }
 
-#[unsafe(no_mangle)]
-pub extern "C" fn gpos_pair(
+pub fn gpos_pair(
     line: &mut [u8],
     size: usize,
     subtable: &[u8],
@@ -85,8 +81,7 @@ pub extern "C" fn gpos_pair(
     ))
 }
 
-#[unsafe(no_mangle)]
-pub extern "C" fn gpos_cursive(
+pub fn gpos_cursive(
     line: &mut [u8],
     size: usize,
     subtable: &[u8],
@@ -114,8 +109,7 @@ pub extern "C" fn gpos_cursive(
     ))
 }
 
-#[unsafe(no_mangle)]
-pub extern "C" fn gpos_mark_base(
+pub fn gpos_mark_base(
     line: &mut [u8],
     size: usize,
     subtable: &[u8],
@@ -130,8 +124,7 @@ pub extern "C" fn gpos_mark_base(
     to_c(gpos::mark_base(line, size, subtable, direction, s, u, index))
 }
 
-#[unsafe(no_mangle)]
-pub extern "C" fn gpos_mark_ligature(
+pub fn gpos_mark_ligature(
     line: &mut [u8],
     size: usize,
     subtable: &[u8],
@@ -146,8 +139,7 @@ pub extern "C" fn gpos_mark_ligature(
     to_c(gpos::mark_ligature(line, size, subtable, direction, s, u, index))
 }
 
-#[unsafe(no_mangle)]
-pub extern "C" fn gpos_mark_mark(
+pub fn gpos_mark_mark(
     line: &mut [u8],
     size: usize,
     subtable: &[u8],
@@ -173,9 +165,7 @@ pub extern "C" fn gpos_mark_mark(
     ))
 }
 
-// Proved by hand, since the kit covers no list of structs.
-#[unsafe(no_mangle)]
-pub extern "C" fn gpos_lookup(
+pub fn gpos_lookup(
     line: &mut [u8],
     size: usize,
     kind: u32,
@@ -200,16 +190,14 @@ pub extern "C" fn gpos_lookup(
     ))
 }
 
-#[unsafe(no_mangle)]
-pub extern "C" fn gpos_to_clusters(line: &[u8], target: &mut [u8]) -> u32
+pub fn gpos_to_clusters(line: &[u8], target: &mut [u8]) -> u32
     ensures { IsLayoutOf moved_number (λ m. ToClustersCall line.now target.old m
         target.new) result }
 {
     moved_number(gpos::to_clusters(line, target))
 }
 
-#[unsafe(no_mangle)]
-pub extern "C" fn gpos_from_clusters(line: &[u8], target: &mut [u8]) -> u32
+pub fn gpos_from_clusters(line: &[u8], target: &mut [u8]) -> u32
     ensures { IsLayoutOf moved_number (λ m. FromClustersCall line.now target.old m
         target.new) result }
 {
