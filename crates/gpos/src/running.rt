@@ -13,7 +13,7 @@ use records::HazardRecord;
 // applies wins. The subtables lie end to end, with their lengths in a list; the hazards of every single call, of declines
 // too, are put into `list` in the order in which they arise. The result is that of the single calls made one after
 // another, with the neighbours that the seen bits give; line and subtables are checked once. Refusals 1 to 4, 8, 6; at a
-// single call that is refused with 7 the run stops. Proved by hand, since the kit covers no list of structs.
+// single call that is refused with 7 the run stops.
 pub fn lookup(
     line: &mut [u8],
     subtables: &[u8],

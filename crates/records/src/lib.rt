@@ -1,5 +1,4 @@
 // The records of a list that the caller lends: hazards as numbers, for the library and for C alike.
-// `push` and `put` are proved by hand, since the kit covers no list of structs.
 #![tactic(auto)]
 
 ghost use Rattle.std.specs.Prelude.{◌≡◌, ◌<◌, ◌≤◌, ◌+◌, length, set};

@@ -1,5 +1,5 @@
 -- The fields of a slot: reading one, and changing one with all else as it was. Assumes nothing.
-use Rattle.std.specs.Prelude.{Bool, ℕ, ◌+◌, ◌*◌, ◌/◌, ◌%◌, eqb, ℤ}
+use Rattle.std.specs.Prelude.{Bool, ℕ, ◌/◌, ◌%◌, eqb, ℤ}
 use Rattle.slots.specs.Slot.{Slot}
 use Rattle.slots.specs.declared.axis.Axis.{Axis}
 use Rattle.slots.specs.declared.axis.Axis.TheVariants.{X, Y}

@@ -1,5 +1,5 @@
 -- What code's values stand for, and the bounds that code leans on. Assumes nothing.
-use Rattle.std.specs.Prelude.{ℕ, ◌+◌, ◌<◌}
+use Rattle.std.specs.Prelude.{ℕ, ◌<◌}
 use Rattle.tables.specs.code.Meant.{Near16, point_of}
 use Rattle.answers.specs.Said.{ranges}
 use Rattle.cursive.specs.CursivePos.{Plan, stop, join}

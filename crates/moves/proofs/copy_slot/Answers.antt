@@ -1,7 +1,7 @@
 -- After k bytes the target has the first k of the slot. Assumes nothing.
 use mathlib.Core.Path.{◌≡◌, refl, ap, ◌∙◌}
 use mathlib.Core.List.{List}
-use Prim.Native.Nat.{ℕ, ◌-◌, ◌%◌, ◌≤◌}
+use Prim.Native.Nat.{ℕ}
 use native.Mathlib.Omega.{arith}
 use Rattle.ints.specs.code.Signed.{val}
 use Rattle.ints.specs.Signed.{with_int}

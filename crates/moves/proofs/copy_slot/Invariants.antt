@@ -1,5 +1,5 @@
 -- After k bytes the target has the first k of the slot. Assumes nothing.
-use mathlib.Core.Path.{◌≡◌, ◌∙◌}
+use mathlib.Core.Path.{◌≡◌}
 use Prim.Native.Nat.{◌-◌, ◌%◌, ◌≤◌}
 use lib.ListN.{length}
 use Rattle.slots.specs.Slot.{slot_size}

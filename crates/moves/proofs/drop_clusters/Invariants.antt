@@ -1,7 +1,7 @@
 -- The first i slots have no cluster. Assumes nothing.
-use mathlib.Core.Path.{◌≡◌, ◌∙◌}
+use mathlib.Core.Path.{◌≡◌}
 use mathlib.Core.List.{map}
-use Prim.Native.Nat.{◌-◌, ◌*◌, ◌≤◌}
+use Prim.Native.Nat.{◌-◌, ◌≤◌}
 use lib.ListN.{length, take}
 use Rattle.slots.specs.Slot.{clustered_size, slot_size}
 use Rattle.slots.specs.Fields.{with_cluster}

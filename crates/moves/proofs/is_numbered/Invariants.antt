@@ -1,5 +1,5 @@
 -- The slots before slot i have their numbers for clusters. Assumes nothing.
-use mathlib.Core.Path.{◌≡◌, ◌∙◌}
+use mathlib.Core.Path.{◌≡◌}
 use Prim.Native.Nat.{◌-◌, ◌≤◌}
 use lib.ListN.{drop}
 use Rattle.slots.specs.Slot.{clustered_size}

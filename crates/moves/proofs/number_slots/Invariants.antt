@@ -1,6 +1,6 @@
 -- The first i slots are numbered. Assumes nothing.
-use mathlib.Core.Path.{◌≡◌, ◌∙◌}
-use Prim.Native.Nat.{◌-◌, ◌*◌, ◌≤◌}
+use mathlib.Core.Path.{◌≡◌}
+use Prim.Native.Nat.{◌-◌, ◌≤◌}
 use lib.ListN.{length, take}
 use Rattle.slots.specs.Slot.{clustered_size, slot_size}
 use Rattle.slots.specs.Numbered.{numbered_from}

@@ -1,12 +1,11 @@
 -- Each arm stores the records that there are, one after another. Assumes nothing.
-use mathlib.Core.Path.{◌≡◌, ap, ◌∙◌}
+use mathlib.Core.Path.{ap, ◌∙◌}
 use mathlib.Core.List.{List}
 use Prim.Native.Nat.{ℕ, ◌+◌}
 use native.Mathlib.Omega.{arith}
-use lib.ListN.{length, set}
-use Rattle.records.specs.Records.{records, set_all}
+use lib.ListN.{set}
+use Rattle.records.specs.Records.{records}
 use Rattle.records.specs.declared.HazardRecord.{HazardRecord}
-use Rattle.records.specs.declared.Records.{Records}
 use Rattle.records.proofs.Laws.{put_none, put_one, put_two}
 use Rattle.records.proofs.put.Goals as goal
 

@@ -1,6 +1,6 @@
 -- After i turns the first i slots are unattached. Assumes nothing.
-use mathlib.Core.Path.{◌≡◌, ◌∙◌}
-use Prim.Native.Nat.{◌-◌, ◌*◌, ◌≤◌}
+use mathlib.Core.Path.{◌≡◌}
+use Prim.Native.Nat.{◌-◌, ◌≤◌}
 use lib.ListN.{length}
 use Rattle.slots.specs.Line.{shape_with, slots}
 use Rattle.start.specs.Start.{unattached}

@@ -1,12 +1,11 @@
 -- `chains::reversal::reverse` meets its contract: each way through it is one equation of `reversed`, and a call that goes on has cleared an attached slot, so
 -- that the number of attached slots falls. Assumes nothing.
 use mathlib.Core.Path.{◌≡◌, sym, ◌∙◌}
-use mathlib.Core.Bool.{true}
 use Prim.Native.Nat.{◌<◌}
 use native.Mathlib.Omega.{arith}
 use borrow.Author.Rules.{rules}
 use lib.ListN.{length}
-use Rattle.slots.specs.Line.{shape_with, slot, slots}
+use Rattle.slots.specs.Line.{shape_with, slots}
 use Rattle.slots.specs.Parent.{parent}
 use Rattle.slots.specs.declared.parent.Parent.TheVariants.{InLine}
 use Rattle.slots.proofs.LineLaws.{length_slots}

@@ -1,7 +1,6 @@
 -- The bits together are those of the slots from i up. Assumes nothing.
-use mathlib.Core.Bool.{◌||◌}
-use mathlib.Core.Path.{◌≡◌, ◌∙◌}
-use Prim.Native.Nat.{◌-◌, ◌≤◌}
+use mathlib.Core.Path.{◌≡◌}
+use Prim.Native.Nat.{◌≤◌}
 use lib.ListN.{drop}
 use Rattle.slots.specs.Line.{shape_with, slots}
 use Rattle.checks.specs.code.Ranges.{bad_fields}

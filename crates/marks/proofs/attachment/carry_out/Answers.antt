@@ -1,5 +1,5 @@
 -- `marks::attachment::carry_out` meets its contract: each plan comes to what it says. Assumes nothing.
-use mathlib.Core.Path.{◌≡◌, sym, ap, subst, ◌∙◌}
+use mathlib.Core.Path.{sym, ap, subst}
 use native.Mathlib.Omega.{arith}
 use Rattle.slots.specs.Line.{slots}
 use Rattle.slots.proofs.ChainLaws.{zero_fits}

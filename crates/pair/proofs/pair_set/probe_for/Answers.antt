@@ -1,7 +1,7 @@
 -- `pair::pair_set::probe_for` meets its contract. The loop's invariant: the whole answer is that of the records from lo up to hi, of which there are at most as
 -- many as 16 bits count. Assumes nothing.
 use mathlib.Core.Path.{sym, ap}
-use Prim.Native.Nat.{ℕ, ◌-◌, ◌*◌, ◌≤◌}
+use Prim.Native.Nat.{ℕ, ◌*◌, ◌≤◌}
 use native.Mathlib.Nat.{mul-le-mul}
 use native.Mathlib.Omega.{arith}
 use Rattle.ints.specs.BigEndian.{nat_at}

@@ -1,6 +1,6 @@
 -- `pair::pair_set::probe_for` meets its contract. The loop's invariant: the whole answer is that of the records from lo up to hi, of which there are at most as
 -- many as 16 bits count. Assumes nothing.
-use Prim.Native.Nat.{◌-◌, ◌*◌, ◌≤◌}
+use Prim.Native.Nat.{◌-◌, ◌≤◌}
 use Rattle.pair.specs.PairSet.{probe}
 use Rattle.pair.proofs.PairSetLaws.{Left}
 use Rattle.pair.proofs.pair_set.probe_for.Given as goal

@@ -1,7 +1,6 @@
 -- `tables::spans::ascending` meets its contract. The loop's invariant: what is asked of all spans is what is asked of those that are left, from
 -- the bound on; and the place is that of span k. Assumes nothing.
-use mathlib.Core.Path.{◌≡◌, ◌∙◌}
-use mathlib.Core.List.{◌∷◌}
+use mathlib.Core.Path.{◌≡◌}
 use Prim.Native.Nat.{◌+◌, ◌-◌, ◌*◌, ◌≤◌}
 use Rattle.tables.specs.Spans.{ascends, spans_from, span_at}
 use Rattle.tables.proofs.spans.ascending.Given as goal

@@ -1,5 +1,5 @@
 -- `tables::spans::seek` meets its contract. The loop's invariant: the glyph lies between lo and hi; the law of the search does the rest. Assumes nothing.
-use Prim.Native.Nat.{◌+◌, ◌-◌, ◌*◌, ◌/◌, ◌≤◌}
+use Prim.Native.Nat.{◌-◌}
 use Rattle.tables.specs.Spans.{span_at}
 use Rattle.tables.proofs.SpansLaws.{Between}
 use Rattle.tables.proofs.spans.seek.Given as goal

@@ -1,7 +1,6 @@
 -- `targets::search::find` meets its contract. The loop's invariant: what is asked of idx is asked of j, which isn't below `until`. The measure is j. Assumes nothing.
 use mathlib.Core.Bool.{true, false}
 use mathlib.Core.Path.{◌≡◌, refl, sym, ap, ◌∙◌}
-use Prim.Native.Nat.{◌≤◌}
 use native.Mathlib.Omega.{arith}
 use Rattle.slots.specs.Line.{slots}
 use Rattle.targets.specs.Search.{stops_at}

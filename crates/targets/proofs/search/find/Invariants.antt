@@ -1,5 +1,5 @@
 -- `targets::search::find` meets its contract. The loop's invariant: what is asked of idx is asked of j, which isn't below `until`. The measure is j. Assumes nothing.
-use mathlib.Core.Path.{◌≡◌, ◌∙◌}
+use mathlib.Core.Path.{◌≡◌}
 use Prim.Native.Nat.{◌≤◌}
 use Rattle.slots.specs.Line.{slots}
 use Rattle.targets.specs.Search.{found_for, stops_at}

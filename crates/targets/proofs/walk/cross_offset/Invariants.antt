@@ -1,7 +1,7 @@
 -- `targets::walk::cross_offset` meets its contract. The loop's invariant: the whole answer is that of the tests that are left, from where the walk stands.
 -- The measure is how many are left. Assumes nothing.
-use mathlib.Core.Path.{◌≡◌, ◌∙◌}
-use Prim.Native.Nat.{◌-◌, ◌<◌}
+use mathlib.Core.Path.{◌≡◌}
+use Prim.Native.Nat.{◌<◌}
 use Rattle.ints.specs.code.Signed.{val}
 use Rattle.slots.specs.Line.{slots}
 use Rattle.targets.specs.Walk.{cross_offset, cross_offset_in}
