@@ -7,7 +7,7 @@ use Rattle.slots.specs.Axis.{forward}
 use Rattle.slots.specs.Line.{slot, update}
 use Rattle.slots.specs.Fields.{offset}
 use Rattle.slots.specs.theorems.Clusters.{Blind, KeepsClusters, with_clusters}
-use Rattle.slots.specs.Parent.{by_parent, cleared, parent}
+use Rattle.slots.specs.Parent.{by_parent, cleared}
 use Rattle.slots.specs.declared.axis.Axis.{Axis}
 use Rattle.slots.specs.declared.axis.Axis.TheVariants.{X, Y}
 use Rattle.slots.specs.declared.axis.Direction.{Direction}

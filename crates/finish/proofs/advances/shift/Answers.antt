@@ -1,17 +1,15 @@
 -- By the direction and by which of the two slots is before the other, the part between and the flag are those of the definition. Assumes nothing.
-use mathlib.Core.Bool.{Bool, true, false}
+use mathlib.Core.Bool.{true, false}
 use mathlib.Core.List.{List}
 use mathlib.Core.Path.{◌≡◌, sym, ◌∙◌}
 use Prim.Native.Nat.{ℕ, ◌+◌, ◌-◌}
 use native.Mathlib.Omega.{arith}
-use lib.IntN.{ℤ}
 use Rattle.ints.specs.code.Signed.{val}
 use Rattle.slots.specs.Slot.{Slot}
 use Rattle.slots.specs.code.Shape.{Fits, part_shape}
 use Rattle.slots.specs.Line.{slots}
 use Rattle.slots.specs.declared.shape.Shape.{Shape}
-use Rattle.finish_rules.specs.Finish.{subtracts}
-use Rattle.finish_rules.proofs.WalkLaws.{Side, Stepped, Walked, walk_part, walked_part}
+use Rattle.finish_rules.proofs.WalkLaws.{walked_part}
 use Rattle.finish.proofs.advances.shift.Goals as goal
 
 -- the shape that code makes for the part is the part's

@@ -1,6 +1,5 @@
 -- After k turns the first k advances of the part have been added to both offsets or subtracted, which are held lifted. Assumes nothing.
-use mathlib.Core.Path.{◌≡◌, refl, ap, ◌∙◌}
-use Prim.Native.Nat.{◌-◌, ◌≤◌, ◌<◌}
+use mathlib.Core.Path.{refl, ap, ◌∙◌}
 use native.Mathlib.Omega.{arith}
 use Rattle.ints.specs.code.Saturating.{unlifted}
 use Rattle.ints.specs.Sums.{stepwise}

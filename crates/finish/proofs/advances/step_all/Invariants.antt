@@ -1,5 +1,5 @@
 -- After k turns the first k advances of the part have been added to both offsets or subtracted, which are held lifted. Assumes nothing.
-use mathlib.Core.Path.{◌≡◌, ◌∙◌}
+use mathlib.Core.Path.{◌≡◌}
 use Prim.Native.Nat.{◌-◌, ◌≤◌, ◌<◌}
 use lib.ListN.{take}
 use Rattle.ints.specs.code.Saturating.{unlifted}

@@ -1,6 +1,5 @@
 -- What is left to do on the line, the first i slots from the last down, is the whole job. Assumes nothing.
-use mathlib.Core.Path.{◌≡◌, refl}
-use Prim.Native.Nat.{◌≤◌}
+use mathlib.Core.Path.{refl}
 use native.Mathlib.Omega.{arith}
 use Rattle.slots.specs.Line.{slots}
 use Rattle.finish.proofs.SettleLaws.{down_done, down_more}

@@ -1,5 +1,4 @@
 -- Each arm answers what the definition gives for its case. Assumes nothing.
-use mathlib.Core.Path.{◌∙◌}
 use Rattle.gpos_c.proofs.layout.list_of.Goals as goal
 
 pub returns-in-None : goal.returns-in-None

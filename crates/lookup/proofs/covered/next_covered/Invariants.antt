@@ -1,5 +1,4 @@
 -- `lookup::covered::next_covered` meets its contract. The loop's invariant: what is asked of slot i and subtable k is asked of j and b. The measure is the steps that are left. Assumes nothing.
-use mathlib.Core.Path.{◌∙◌}
 use Rattle.slots.specs.Line.{slots}
 use Rattle.lookup.specs.code.Covered.{steps_from}
 use Rattle.lookup.proofs.CoveredLaws.{Searching}

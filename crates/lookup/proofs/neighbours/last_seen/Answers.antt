@@ -1,7 +1,6 @@
 -- `lookup::neighbours::last_seen` meets its contract. The loop's invariant: what is asked of n is asked of j, which isn't below i. The measure is j. Assumes nothing.
 use mathlib.Core.Bool.{true, false}
 use mathlib.Core.Path.{◌≡◌, refl, sym, ap, ◌∙◌}
-use Prim.Native.Nat.{◌≤◌}
 use native.Mathlib.Omega.{arith}
 use Rattle.slots.specs.Line.{slots}
 use Rattle.targets.proofs.SearchLaws.{nearest_turn}

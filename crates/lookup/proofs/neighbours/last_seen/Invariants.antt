@@ -1,5 +1,5 @@
 -- `lookup::neighbours::last_seen` meets its contract. The loop's invariant: what is asked of n is asked of j, which isn't below i. The measure is j. Assumes nothing.
-use mathlib.Core.Path.{◌≡◌, ◌∙◌}
+use mathlib.Core.Path.{◌≡◌}
 use Prim.Native.Nat.{◌≤◌}
 use Rattle.slots.specs.Line.{slots}
 use Rattle.lookup.specs.Neighbours.{previous}

@@ -1,5 +1,5 @@
 -- `lookup::neighbours::next_seen` meets its contract. The loop's invariant: what is asked of i is asked of j. The measure is what is left of the slots. Assumes nothing.
-use mathlib.Core.Path.{◌≡◌, ◌∙◌}
+use mathlib.Core.Path.{◌≡◌}
 use Prim.Native.Nat.{◌-◌, ◌≤◌}
 use Rattle.slots.specs.Line.{slots}
 use Rattle.lookup.specs.Neighbours.{seen_from}

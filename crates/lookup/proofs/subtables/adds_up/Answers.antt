@@ -1,5 +1,4 @@
 -- `lookup::subtables::adds_up` meets its contract: what is left is what is left of n after the lengths that were passed. Assumes nothing.
-use Prim.Native.Nat.{◌-◌}
 use native.Mathlib.Omega.{arith}
 use Rattle.lookup.proofs.SubtableLaws.{left_end, left_next, left_short, total_none}
 use Rattle.lookup.proofs.subtables.adds_up.Goals as goal

@@ -1,5 +1,4 @@
 -- `lookup::subtables::all_good` meets its contract: those that were passed are good, so that the rest decides. Assumes nothing.
-use Prim.Native.Nat.{◌-◌}
 use borrow.Author.Rules.{rules}
 use Rattle.lookup.proofs.SubtableLaws.{passed_bad, passed_end, passed_inside, passed_next, passed_none}
 use Rattle.lookup.proofs.subtables.all_good.Goals as goal
