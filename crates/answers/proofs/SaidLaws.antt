@@ -1,9 +1,9 @@
 -- An answer is told by what it says. Assumes nothing.
+use Rattle.std.specs.Prelude.{if◌then◌else◌}
 use mathlib.Core.Path.{◌≡◌, refl, sym, ap, ◌∙◌}
 use mathlib.Core.List.{List, [], ◌∷◌}
 use Prim.Native.Nat.{ℕ}
 use lib.Dec.{eqb}
-use Rattle.ints.specs.Choice.{if◌then◌else◌}
 use Rattle.answers.specs.Said.{Range, unsafe_to_break, unsafe_to_concat, Said, applied, declined, refused, done, range, ranges, refusal_number, said, said_done, said_moved, said_run, SaidRun, ran, stopped, not_run}
 use Rattle.answers.specs.declared.HazardKind.{HazardKind}
 use Rattle.answers.specs.declared.HazardKind.TheVariants.{UnsafeToBreak, UnsafeToConcat}

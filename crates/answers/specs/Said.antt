@@ -1,6 +1,5 @@
 -- What a call says, in the terms of docs/RULES.md, and what each case of code's answers says. Assumes nothing.
-use Rattle.std.specs.Prelude.{Bool, List, [], ◌∷◌, ℕ}
-use Rattle.ints.specs.Choice.{if◌then◌else◌}
+use Rattle.std.specs.Prelude.{Bool, List, [], ◌∷◌, ℕ, if◌then◌else◌}
 use Rattle.answers.specs.declared.HazardKind.{HazardKind}
 use Rattle.answers.specs.declared.HazardKind.TheVariants.{UnsafeToBreak, UnsafeToConcat}
 use Rattle.answers.specs.declared.Hazard.{Hazard}

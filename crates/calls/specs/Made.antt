@@ -1,6 +1,5 @@
 -- What a call that is made by its numbers may answer, and when a recorded one answered the same. Assumes nothing.
-use Rattle.std.specs.Prelude.{List, ◌≡◌, ℕ, ◌<◌, ◌≤◌, eqb, length, take}
-use Rattle.ints.specs.Choice.{if◌then◌else◌}
+use Rattle.std.specs.Prelude.{List, ◌≡◌, ℕ, ◌<◌, ◌≤◌, eqb, length, take, if◌then◌else◌}
 use Rattle.answers.specs.declared.Hazards.TheVariants.{None}
 use Rattle.answers.specs.declared.Neighbour.{Neighbour}
 use Rattle.gpos.specs.CursivePos.{CursiveCall}

@@ -1,6 +1,5 @@
 // A recorded call, made again through the calls for C.
-ghost use Rattle.std.specs.Prelude.{◌≡◌, ◌<◌, eqb};
-ghost use Rattle.ints.specs.Choice.{if◌then◌else◌};
+ghost use Rattle.std.specs.Prelude.{◌≡◌, ◌<◌, eqb, if◌then◌else◌};
 ghost use Rattle.recorded.specs.Recorded.{afterwards};
 ghost use Rattle.calls.specs.Made.{Made, numbered as Made·numbered};
 

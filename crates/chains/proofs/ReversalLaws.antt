@@ -1,4 +1,5 @@
 -- Reversal: each call that goes on clears one attached slot; and one equation for each way through it. Assumes nothing.
+use Rattle.std.specs.Prelude.{if◌then◌else◌}
 use mathlib.Core.Bool.{Bool, true, false, not}
 use mathlib.Core.List.{List}
 use mathlib.Core.Path.{◌≡◌, refl, sym, ap, ◌∙◌}
@@ -7,7 +8,6 @@ use borrow.Author.Tests.{eq-eqb, ne_eqb}
 use lib.Dec.{eqb}
 use lib.IntN.{ℤ, nat_abs, neg_ℤ}
 use lib.ListN.{length}
-use Rattle.ints.specs.Choice.{if◌then◌else◌}
 use Rattle.ints.specs.Saturating.{sat_neg}
 use Rattle.ints.specs.code.Signed.{val}
 use Rattle.ints.proofs.SizeLaws.{abs_zero}

@@ -1,7 +1,6 @@
 -- Chains as numbers of 16 bits. Assumes nothing.
-use Rattle.std.specs.Prelude.{List, ℕ, ltb, ℤ, pos, ◌-ℤ◌, length}
+use Rattle.std.specs.Prelude.{List, ℕ, ltb, ℤ, pos, ◌-ℤ◌, length, if◌then◌else◌}
 use Rattle.std.specs.Int.Signed.{mag}
-use Rattle.ints.specs.Choice.{if◌then◌else◌}
 use Rattle.slots.specs.Slot.{Slot}
 use Rattle.slots.specs.Parent.{chain_limit, is_attached}
 use Rattle.ints.specs.Tally.{tally}

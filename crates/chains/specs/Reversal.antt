@@ -1,6 +1,5 @@
 -- Reversal of an old chain (`reverse_cursive_minor_offset`). Assumes nothing.
-use Rattle.std.specs.Prelude.{List, ℕ, zero, suc, eqb, neg_ℤ}
-use Rattle.ints.specs.Choice.{if◌then◌else◌}
+use Rattle.std.specs.Prelude.{List, ℕ, zero, suc, eqb, neg_ℤ, if◌then◌else◌}
 use Rattle.ints.specs.Saturating.{sat_neg}
 use Rattle.slots.specs.Slot.{Slot}
 use Rattle.slots.specs.Line.{slot, update}

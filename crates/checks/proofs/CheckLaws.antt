@@ -1,9 +1,9 @@
 -- What the checks that calls share find, refused or none, as code reaches it and as a caller reads it. Assumes nothing.
+use Rattle.std.specs.Prelude.{if◌then◌else◌}
 use mathlib.Core.Path.{◌≡◌, refl, sym, ap, ◌∙◌}
 use mathlib.Core.Bool.{Bool, true, false}
 use mathlib.Core.List.{List, [], ◌∷◌}
 use Prim.Native.Nat.{ℕ}
-use Rattle.ints.specs.Choice.{if◌then◌else◌}
 use Rattle.ints.proofs.TestLaws.{clash}
 use Rattle.slots.specs.Checks.{bad_line}
 use Rattle.slots.specs.code.Shape.{Fits}

@@ -1,6 +1,5 @@
 -- Cursive attachment: what joining two glyphs does to the line. Assumes nothing.
-use Rattle.std.specs.Prelude.{Bool, true, false, List, ℕ, ◌%◌, eqb, ℤ, pos, neg_ℤ}
-use Rattle.ints.specs.Choice.{if◌then◌else◌}
+use Rattle.std.specs.Prelude.{Bool, true, false, List, ℕ, ◌%◌, eqb, ℤ, pos, neg_ℤ, if◌then◌else◌}
 use Rattle.ints.specs.Saturating.{sat_sub, sat_neg, sat_add}
 use Rattle.ints.specs.Scale.{scaled}
 use Rattle.ints.specs.Signed.{same_as}

@@ -1,11 +1,11 @@
 -- How a slot takes in its parent, by its type, as code writes it. Assumes nothing.
+use Rattle.std.specs.Prelude.{if◌then◌else◌}
 use mathlib.Core.Bool.{Bool, true, false}
 use mathlib.Core.List.{List}
 use mathlib.Core.Path.{◌≡◌, refl, sym, ap, ap₂, ◌∙◌}
 use Prim.Native.Nat.{ℕ, zero, suc, ◌<◌}
 use lib.IntN.{ℤ}
 use lib.ListN.{length, set}
-use Rattle.ints.specs.Choice.{if◌then◌else◌}
 use Rattle.ints.specs.Saturating.{sat_add}
 use Rattle.slots.specs.Axis.{cross}
 use Rattle.slots.specs.Slot.{Slot}

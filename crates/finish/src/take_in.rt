@@ -1,6 +1,5 @@
 // How a slot takes in its parent, by its type: a mark, a cursive glyph, or nothing.
-ghost use Rattle.std.specs.Prelude.{◌≡◌};
-ghost use Rattle.ints.specs.Choice.{if◌then◌else◌};
+ghost use Rattle.std.specs.Prelude.{◌≡◌, if◌then◌else◌};
 ghost use Rattle.ints.specs.Saturating.{sat_add};
 ghost use Rattle.ints.specs.code.Signed.{val};
 ghost use Rattle.slots.specs.code.Shape.{Inside};

@@ -1,7 +1,6 @@
 -- What finishing does to a line. Assumes nothing.
-use Rattle.std.specs.Prelude.{Bool, true, false, List, map, ℕ, zero, suc, min, max, ltb, ℤ, length}
+use Rattle.std.specs.Prelude.{Bool, true, false, List, map, ℕ, zero, suc, min, max, ltb, ℤ, length, if◌then◌else◌}
 use Rattle.std.proofs.Math.Seq.{slice}
-use Rattle.ints.specs.Choice.{if◌then◌else◌}
 use Rattle.ints.specs.Saturating.{sat_sub, sat_add}
 use Rattle.ints.specs.Sums.{stepwise}
 use Rattle.slots.specs.Axis.{forward, main, same_axis}

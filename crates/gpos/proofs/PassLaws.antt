@@ -1,4 +1,5 @@
 -- Places of a run at which the glyph isn't covered are passed over: the definition's calls there decline without hazard. Assumes nothing.
+use Rattle.std.specs.Prelude.{if◌then◌else◌}
 use mathlib.Core.Path.{◌≡◌, refl, ap, ◌∙◌}
 use mathlib.Core.Bool.{Bool, true, false}
 use mathlib.Core.List.{List, [], ◌∷◌}
@@ -8,7 +9,6 @@ use native.Mathlib.Omega.{arith}
 use borrow.Author.Tests.{le-ltb, lt-ltb}
 use lib.Dec.{ltb}
 use lib.ListN.{length, take}
-use Rattle.ints.specs.Choice.{if◌then◌else◌}
 use Rattle.slots.specs.Axis.{direction_of}
 use Rattle.slots.specs.Checks.{bad_line}
 use Rattle.slots.specs.Line.{count, line_slots, shape_of}

@@ -1,5 +1,6 @@
 -- The loop of a run: what it holds at each turn, that a turn is calls of the definition that decline without hazard, and
 -- then one more, and what it comes to. Assumes nothing.
+use Rattle.std.specs.Prelude.{if◌then◌else◌}
 use mathlib.Core.Path.{◌≡◌, refl, sym, ap, ap₂, subst, ◌∙◌}
 use mathlib.Core.Bool.{Bool, true, false}
 use mathlib.Core.List.{List, [], ◌∷◌, ◌++◌, map}
@@ -10,7 +11,6 @@ use native.Mathlib.Omega.{arith}
 use borrow.Author.Tests.{eq-eqb, eqb-false, eqb-true, lt-ltb, ltb-false, ne_eqb}
 use lib.Dec.{eqb, ltb}
 use lib.ListN.{drop, get_or, length, length-append, length-map}
-use Rattle.ints.specs.Choice.{if◌then◌else◌}
 use Rattle.ints.proofs.TestLaws.{clash}
 use Rattle.slots.specs.Checks.{bad_line}
 use Rattle.slots.specs.Line.{count, line_slots, shape_of, shape_with, slots}

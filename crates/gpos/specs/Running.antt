@@ -1,7 +1,6 @@
 -- Running a lookup: the single calls, made one after another. Assumes nothing.
-use Rattle.std.specs.Prelude.{Bool, false, ◌||◌, List, [], ◌++◌, map, ◌≡◌, ℕ, zero, suc, ◌+◌, ◌*◌, ltb, drop, get_or, length}
+use Rattle.std.specs.Prelude.{Bool, false, ◌||◌, List, [], ◌++◌, map, ◌≡◌, ℕ, zero, suc, ◌+◌, ◌*◌, ltb, drop, get_or, length, if◌then◌else◌}
 use Rattle.std.proofs.Math.Option.{Option, some, none}
-use Rattle.ints.specs.Choice.{if◌then◌else◌}
 use Rattle.slots.specs.Line.{count, line_slots}
 use Rattle.slots.specs.Slot.{Slot}
 use Rattle.answers.specs.Outcome.{answer_to, Call, line_after}

@@ -1,4 +1,3 @@
-pub mod Choice  -- a choice by a test
 pub mod Limits  -- powers of 2 by name
 pub mod BigEndian  -- unsigned numbers in bytes
 pub mod Signed  -- signed numbers in bytes and bits

@@ -1,7 +1,6 @@
 -- Sums, differences and negations that saturate at 32 bits. Assumes nothing.
-use Rattle.std.specs.Prelude.{ℕ, ◌-◌, ℤ, pos, neg_ℤ, ◌+ℤ◌, ◌-ℤ◌}
+use Rattle.std.specs.Prelude.{ℕ, ◌-◌, ℤ, pos, neg_ℤ, ◌+ℤ◌, ◌-ℤ◌, if◌then◌else◌}
 use Rattle.std.specs.Int.Signed.{lt_z}
-use Rattle.ints.specs.Choice.{if◌then◌else◌}
 use Rattle.ints.specs.Limits.{half32}
 
 -- - n

@@ -1,7 +1,6 @@
 -- Signed numbers: plain integers here, and in bytes and in code their two's complement. Assumes nothing.
-use Rattle.std.specs.Prelude.{Bool, ◌&&◌, List, ℕ, ◌+◌, ◌-◌, ◌/◌, ◌^◌, ◌<◌, ltb, ℤ, pos, negsuc, ◌-ℤ◌}
+use Rattle.std.specs.Prelude.{Bool, ◌&&◌, List, ℕ, ◌+◌, ◌-◌, ◌/◌, ◌^◌, ◌<◌, ltb, ℤ, pos, negsuc, ◌-ℤ◌, if◌then◌else◌}
 use Rattle.std.specs.Int.Signed.{le_z, mag}
-use Rattle.ints.specs.Choice.{if◌then◌else◌}
 use Rattle.ints.specs.BigEndian.{nat_at, with_nat}
 
 -- half of the patterns of w bytes: 2 ^ 15 at two bytes, 2 ^ 31 at four

@@ -1,7 +1,6 @@
 -- The numbers that pass a test: how many below n, the nearest below n, the lowest from i up. Assumes nothing.
-use Rattle.std.specs.Prelude.{Bool, true, false, ℕ, zero, suc, ◌+◌}
+use Rattle.std.specs.Prelude.{Bool, true, false, ℕ, zero, suc, ◌+◌, if◌then◌else◌}
 use Rattle.std.proofs.Math.Option.{Option, some, none}
-use Rattle.ints.specs.Choice.{if◌then◌else◌}
 
 -- 1 for true, 0 for false
 unfoldable pub bit : Bool → ℕ

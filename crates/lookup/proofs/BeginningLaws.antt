@@ -1,4 +1,5 @@
 -- Where a run begins, by all that is checked before: each way through the checks, and what holds once none refuses. Assumes nothing.
+use Rattle.std.specs.Prelude.{if◌then◌else◌}
 use mathlib.Core.Path.{◌≡◌, refl, sym, ap, ◌∙◌}
 use mathlib.Core.Bool.{Bool, true, false, not, ◌||◌}
 use mathlib.Core.List.{List, [], ◌∷◌}
@@ -9,7 +10,6 @@ use native.Mathlib.Omega.{arith}
 use borrow.Author.Tests.{eqb-true, le-ltb, lt-ltb, ltb-false, not-false}
 use lib.Dec.{eqb, ltb}
 use lib.ListN.{get_or, get_or-replicate, length, replicate}
-use Rattle.ints.specs.Choice.{if◌then◌else◌}
 use Rattle.ints.proofs.TestLaws.{clash, or_false}
 use Rattle.slots.specs.Checks.{bad_line}
 use Rattle.slots.specs.Slot.{Slot}

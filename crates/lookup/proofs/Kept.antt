@@ -1,11 +1,11 @@
 -- Which changes leave what slots are: the laws that all calls share. Assumes nothing.
+use Rattle.std.specs.Prelude.{if◌then◌else◌}
 use mathlib.Core.Bool.{Bool, true, false}
 use mathlib.Core.List.{List}
 use mathlib.Core.Path.{◌≡◌, refl}
 use Prim.Native.Nat.{ℕ}
 use lib.IntN.{ℤ, pos}
 use lib.Seq.{map-set_same}
-use Rattle.ints.specs.Choice.{if◌then◌else◌}
 use Rattle.slots.specs.Slot.{Slot, no_slot}
 use Rattle.slots.specs.Line.{slot, update}
 use Rattle.slots.specs.Fields.{with_chain, with_measure}

@@ -1,5 +1,6 @@
 -- Laws of the neighbours that the seen bits give: one turn of the search upward, what stays found at a later slot, where it is, and that two lines whose
 -- slots are the same give the same. Assumes nothing.
+use Rattle.std.specs.Prelude.{if◌then◌else◌}
 use mathlib.Core.Bool.{Bool, true, false}
 use mathlib.Core.List.{List}
 use mathlib.Core.Option.{Option, some, none}
@@ -9,7 +10,6 @@ use native.Mathlib.Nat.{zero-sub}
 use native.Mathlib.Numerals.{add-one, unary_clauses}
 use native.Mathlib.Omega.{arith}
 use lib.ListN.{length}
-use Rattle.ints.specs.Choice.{if◌then◌else◌}
 use Rattle.ints.specs.Tally.{lowest, nearest}
 use Rattle.ints.proofs.TestLaws.{clash}
 use Rattle.slots.specs.Slot.{Slot}

@@ -1,4 +1,5 @@
 -- Laws of one turn of a run: what the call needs, what it leaves, and that the run can go on. Assumes nothing.
+use Rattle.std.specs.Prelude.{if◌then◌else◌}
 use mathlib.Core.Path.{◌≡◌, refl, sym, ap, ap₂, subst, ◌∙◌}
 use mathlib.Core.Bool.{Bool, true, false, not, ◌||◌}
 use mathlib.Core.List.{List}
@@ -12,7 +13,6 @@ use lib.ListN.{get_or, length, length-set, set, take}
 use lib.Seq.{get_or-set_other, get_or-set_same}
 use Rattle.ints.specs.BigEndian.{AllBytes}
 use Rattle.ints.specs.Limits.{whole16}
-use Rattle.ints.specs.Choice.{if◌then◌else◌}
 use Rattle.slots.specs.Checks.{bad_length}
 use Rattle.slots.specs.Slot.{known, Slot}
 use Rattle.slots.specs.Line.{bytes, shape_of, shape_with, slots}

@@ -1,7 +1,6 @@
 -- The lookup types (OpenType, GPOS) that the library has. Assumes nothing.
-use Rattle.std.specs.Prelude.{Bool, List, ℕ, eqb}
+use Rattle.std.specs.Prelude.{Bool, List, ℕ, eqb, if◌then◌else◌}
 use Rattle.std.proofs.Math.Option.{Option, some, none}
-use Rattle.ints.specs.Choice.{if◌then◌else◌}
 use Rattle.single.specs.SinglePos.{single_good}
 use Rattle.pair.specs.PairPos.{pair_good}
 use Rattle.cursive.specs.CursivePos.{cursive_good}

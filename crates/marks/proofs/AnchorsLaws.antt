@@ -1,4 +1,5 @@
 -- Laws of a mark's anchors: what is found in a subtable, by what code read. Assumes nothing.
+use Rattle.std.specs.Prelude.{if◌then◌else◌}
 use mathlib.Core.Path.{◌≡◌, sym, ap, ◌∙◌}
 use mathlib.Core.Bool.{Bool, true, false, and-false}
 use mathlib.Core.List.{List, []}
@@ -9,7 +10,6 @@ use lib.Dec.{eqb}
 use lib.ListN.{length, drop}
 use borrow.Author.Tests.{eq-eqb, lt-leb, ne_eqb}
 use Rattle.ints.specs.BigEndian.{AllBytes, nat_at}
-use Rattle.ints.specs.Choice.{if◌then◌else◌}
 use Rattle.ints.proofs.BigEndianLaws.{bytes_drop}
 use Rattle.slots.specs.Slot.{Slot}
 use Rattle.tables.specs.AnchorRows.{rows_of}

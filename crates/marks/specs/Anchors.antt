@@ -4,10 +4,9 @@
 --   BaseArray: uint16 baseCount, then a row for each base; a Mark2Array likewise, for each earlier mark
 --   LigatureArray: uint16 ligatureCount, Offset16 ligatureAttachOffsets[ligatureCount]
 --   LigatureAttach: uint16 componentCount, then a row for each component
-use Rattle.std.specs.Prelude.{List, ℕ, eqb}
+use Rattle.std.specs.Prelude.{List, ℕ, eqb, if◌then◌else◌}
 use Rattle.std.proofs.Math.Option.{Option, some, none}
 use Rattle.ints.specs.BigEndian.{u16_at}
-use Rattle.ints.specs.Choice.{if◌then◌else◌}
 use Rattle.slots.specs.Slot.{Slot}
 use Rattle.tables.specs.Anchor.{Point}
 use Rattle.tables.specs.AnchorRows.{anchor_in, rows_of}

@@ -1,6 +1,5 @@
 -- Mark attachment (`attach_mark`): what hanging a mark on a slot does to the line. Assumes nothing.
-use Rattle.std.specs.Prelude.{List, ℕ, ℤ, pos, ◌-ℤ◌}
-use Rattle.ints.specs.Choice.{if◌then◌else◌}
+use Rattle.std.specs.Prelude.{List, ℕ, ℤ, pos, ◌-ℤ◌, if◌then◌else◌}
 use Rattle.ints.specs.Saturating.{sat_add}
 use Rattle.ints.specs.Scale.{scaled}
 use Rattle.slots.specs.Axis.{cross, main}

@@ -4,9 +4,8 @@
 --   format 2: uint16 posFormat, Offset16 coverageOffset, uint16 valueFormat1, valueFormat2, Offset16 classDef1Offset,
 --     classDef2Offset, uint16 class1Count, class2Count, class1Records[class1Count], each of class2Records[class2Count],
 --     each of a value record by valueFormat1 and one by valueFormat2
-use Rattle.std.specs.Prelude.{Bool, true, ◌&&◌, List, ℕ, ◌+◌, ◌*◌, eqb, leb, length}
+use Rattle.std.specs.Prelude.{Bool, true, ◌&&◌, List, ℕ, ◌+◌, ◌*◌, eqb, leb, length, if◌then◌else◌}
 use Rattle.ints.specs.BigEndian.{u16_at}
-use Rattle.ints.specs.Choice.{if◌then◌else◌}
 use Rattle.tables.specs.ClassDef.{class_at, class_good_at}
 use Rattle.tables.specs.Coverage.{coverage_at, coverage_good_at}
 use Rattle.tables.specs.Header.{coverage_offset, header_good, most_bytes, pos_format}

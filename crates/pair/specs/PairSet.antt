@@ -1,8 +1,7 @@
 -- The PairSet table (OpenType, GPOS): uint16 pairValueCount, pairValueRecords[pairValueCount], each of a uint16
 -- secondGlyph and two value records, ordered by secondGlyph. Assumes nothing.
-use Rattle.std.specs.Prelude.{List, ℕ, zero, suc, ◌+◌, ◌*◌, ◌/◌, ltb, length}
+use Rattle.std.specs.Prelude.{List, ℕ, zero, suc, ◌+◌, ◌*◌, ◌/◌, ltb, length, if◌then◌else◌}
 use Rattle.ints.specs.BigEndian.{u16_at}
-use Rattle.ints.specs.Choice.{if◌then◌else◌}
 use Rattle.pair.specs.declared.pair_set.Probe.{Probe}
 use Rattle.pair.specs.declared.pair_set.Probe.TheVariants.{Found, Nothing, Cut}
 

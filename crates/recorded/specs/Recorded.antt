@@ -1,7 +1,6 @@
 -- What the head of a call records: 24 numbers, those of the call and those of its answer. Assumes nothing.
-use Rattle.std.specs.Prelude.{Bool, List, [], ◌∷◌, ℕ, ◌+◌, ◌*◌, ltb}
+use Rattle.std.specs.Prelude.{Bool, List, [], ◌∷◌, ℕ, ◌+◌, ◌*◌, ltb, if◌then◌else◌}
 use Rattle.ints.specs.BigEndian.{nat_at}
-use Rattle.ints.specs.Choice.{if◌then◌else◌}
 use Rattle.records.specs.declared.HazardRecord.{HazardRecord}
 use Rattle.gpos_c.specs.declared.layout.CAnswer.{CAnswer}
 use Rattle.recorded.specs.declared.numbers.Call.{Call}

@@ -2,10 +2,9 @@
 --   format 1: uint16 posFormat, Offset16 coverageOffset, uint16 valueFormat, valueRecord, for all covered glyphs
 --   format 2: uint16 posFormat, Offset16 coverageOffset, uint16 valueFormat, uint16 valueCount,
 --     valueRecords[valueCount], one for each coverage index
-use Rattle.std.specs.Prelude.{Bool, false, ◌&&◌, List, [], ℕ, ◌+◌, ◌*◌, eqb, leb, ltb, length}
+use Rattle.std.specs.Prelude.{Bool, false, ◌&&◌, List, [], ℕ, ◌+◌, ◌*◌, eqb, leb, ltb, length, if◌then◌else◌}
 use Rattle.std.proofs.Math.Option.{Option, some, none}
 use Rattle.ints.specs.BigEndian.{u16_at}
-use Rattle.ints.specs.Choice.{if◌then◌else◌}
 use Rattle.slots.specs.Slot.{Slot}
 use Rattle.slots.specs.Line.{slot, update}
 use Rattle.slots.specs.declared.axis.Direction.{Direction}

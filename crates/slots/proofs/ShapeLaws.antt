@@ -1,4 +1,5 @@
 -- How a line is cut into slots: the tests that code makes, the definition's, and what is known afterwards. Assumes nothing.
+use Rattle.std.specs.Prelude.{if◌then◌else◌}
 use mathlib.Core.Path.{◌≡◌, refl, ap}
 use mathlib.Core.Bool.{Bool, true, false, not, ◌||◌}
 use mathlib.Core.List.{List}
@@ -6,7 +7,6 @@ use Prim.Native.Nat.{ℕ, ◌*◌, ◌/◌, ◌%◌, ◌<◌, ◌≤◌}
 use native.Mathlib.Nat.{div-add-mod'}
 use native.Mathlib.Omega.{arith}
 use borrow.Author.Tests.{eq-eqb, le-ltb, lt-ltb, ne_eqb}
-use Rattle.ints.specs.Choice.{if◌then◌else◌}
 use lib.Dec.{eqb}
 use Rattle.ints.proofs.TestLaws.{clash}
 use Rattle.slots.specs.Slot.{clustered_size, known, slot_size}

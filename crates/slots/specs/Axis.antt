@@ -1,6 +1,5 @@
 -- The two axes and the four directions. Assumes nothing.
-use Rattle.std.specs.Prelude.{Bool, true, false, ℕ, eqb}
-use Rattle.ints.specs.Choice.{if◌then◌else◌}
+use Rattle.std.specs.Prelude.{Bool, true, false, ℕ, eqb, if◌then◌else◌}
 use Rattle.slots.specs.declared.axis.Axis.{Axis}
 use Rattle.slots.specs.declared.axis.Axis.TheVariants.{X, Y}
 use Rattle.slots.specs.declared.axis.Direction.{Direction}

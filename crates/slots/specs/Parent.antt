@@ -1,6 +1,5 @@
 -- What a slot hangs on: its parent, as many slots further on as its chain says. Assumes nothing.
-use Rattle.std.specs.Prelude.{Bool, not, List, ℕ, zero, suc, eqb, ltb, ℤ, pos, negsuc, nat_abs, ◌+ℤ◌, length}
-use Rattle.ints.specs.Choice.{if◌then◌else◌}
+use Rattle.std.specs.Prelude.{Bool, not, List, ℕ, zero, suc, eqb, ltb, ℤ, pos, negsuc, nat_abs, ◌+ℤ◌, length, if◌then◌else◌}
 use Rattle.ints.specs.Limits.{half16}
 use Rattle.slots.specs.Slot.{Slot}
 use Rattle.slots.specs.Line.{slot, update}

@@ -1,7 +1,6 @@
 // How a line is cut into slots. The caller of the library names a slot's size; all else is told a shape, which goes
 // with the line.
-ghost use Rattle.std.specs.Prelude.{◌≡◌, ◌/◌, ◌<◌};
-ghost use Rattle.ints.specs.Choice.{if◌then◌else◌};
+ghost use Rattle.std.specs.Prelude.{◌≡◌, ◌/◌, ◌<◌, if◌then◌else◌};
 ghost use Rattle.slots.specs.code.Shape.{cut_of, part_shape};
 ghost use Rattle.slots.specs.Checks.{bad_length};
 ghost use Rattle.slots.specs.declared.shape.Cut.TheVariants.{Slots, Bad};

@@ -1,4 +1,5 @@
 -- Laws of the numbers of rows and columns: how large they are. Assumes nothing.
+use Rattle.std.specs.Prelude.{if◌then◌else◌}
 use mathlib.Core.Path.{◌≡◌}
 use mathlib.Core.Bool.{Bool, true, false, ◌&&◌}
 use mathlib.Core.List.{List}
@@ -8,7 +9,6 @@ use native.Mathlib.Omega.{arith}
 use lib.Dec.{leb}
 use lib.ListN.{length}
 use Rattle.ints.specs.BigEndian.{AllBytes, nat_at}
-use Rattle.ints.specs.Choice.{if◌then◌else◌}
 use Rattle.ints.proofs.BigEndianLaws.{nat_at_fits}
 use Rattle.ints.proofs.TestLaws.{clash}
 use Rattle.tables.specs.AnchorRows.{rows_of}

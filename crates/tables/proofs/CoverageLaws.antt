@@ -1,5 +1,6 @@
 -- Laws of coverage tables: what the check says of a table's bytes, and one equation of a glyph's index for each way through the lookup. Assumes
 -- nothing.
+use Rattle.std.specs.Prelude.{if◌then◌else◌}
 use mathlib.Core.Path.{◌≡◌, refl}
 use mathlib.Core.Bool.{Bool, true, false, ◌&&◌}
 use mathlib.Core.List.{List}
@@ -8,7 +9,6 @@ use lib.Dec.{eqb, ltb}
 use lib.ListN.{length}
 use borrow.Author.Tests.{eq-eqb, le-ltb, leb-true, lt-ltb, ltb-false, ne_eqb}
 use Rattle.ints.specs.BigEndian.{nat_at}
-use Rattle.ints.specs.Choice.{if◌then◌else◌}
 use Rattle.ints.proofs.TestLaws.{and_left, and_right, clash}
 use Rattle.tables.specs.Spans.{ascends, first_holding, glyph_spans, range_spans, span_at, spans, whole_spans}
 use Rattle.tables.specs.Coverage.{coverage_good, coverage_index}

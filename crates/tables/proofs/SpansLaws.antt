@@ -1,5 +1,6 @@
 -- Laws of lists of spans: what an ascending list says of its spans, where the first span that holds a glyph lies, and the law of the search:
 -- by halves one finds what the plain reading finds. Assumes nothing.
+use Rattle.std.specs.Prelude.{if◌then◌else◌}
 use mathlib.Core.Path.{◌≡◌, refl, sym, ap, subst, ◌∙◌}
 use mathlib.Core.Logic.{◌⊎◌, inl, inr, ⊎_elim}
 use mathlib.Core.Bool.{Bool, true, false, ◌&&◌}
@@ -11,7 +12,6 @@ use native.Mathlib.Numerals.{add-one}
 use native.Mathlib.Omega.{arith}
 use lib.Dec.{leb}
 use borrow.Author.Tests.{le-leb, leb-true, lt-leb}
-use Rattle.ints.specs.Choice.{if◌then◌else◌}
 use Rattle.ints.proofs.TestLaws.{and_left, and_right}
 use Rattle.tables.specs.Spans.{Span, ascends, first_holding, holds, spans_from}
 

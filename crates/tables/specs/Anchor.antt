@@ -1,9 +1,8 @@
 -- The Anchor table (OpenType, GPOS): uint16 anchorFormat, int16 xCoordinate, int16 yCoordinate; then in format 2 a
 -- uint16, in format 3 two offsets, which are left unread. Assumes nothing.
-use Rattle.std.specs.Prelude.{Bool, ◌&&◌, List, ℕ, ◌+◌, ◌*◌, leb, ℤ, length}
+use Rattle.std.specs.Prelude.{Bool, ◌&&◌, List, ℕ, ◌+◌, ◌*◌, leb, ℤ, length, if◌then◌else◌}
 use Rattle.std.proofs.Math.Option.{Option, some, none}
 use Rattle.ints.specs.BigEndian.{u16_at}
-use Rattle.ints.specs.Choice.{if◌then◌else◌}
 use Rattle.ints.specs.Signed.{int_at}
 use Rattle.slots.specs.declared.axis.Axis.{Axis}
 use Rattle.slots.specs.declared.axis.Axis.TheVariants.{X, Y}

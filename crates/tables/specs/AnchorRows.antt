@@ -1,9 +1,8 @@
 -- Rows of anchor offsets with one column for each mark class: the BaseArray, Mark2Array and LigatureAttach tables
 -- (OpenType, GPOS). A uint16 count of rows, then the offsets row by row, from the table's start. Assumes nothing.
-use Rattle.std.specs.Prelude.{◌&&◌, List, ℕ, ◌+◌, ◌*◌, leb, ltb, length}
+use Rattle.std.specs.Prelude.{◌&&◌, List, ℕ, ◌+◌, ◌*◌, leb, ltb, length, if◌then◌else◌}
 use Rattle.std.proofs.Math.Option.{Option, none}
 use Rattle.ints.specs.BigEndian.{u16_at}
-use Rattle.ints.specs.Choice.{if◌then◌else◌}
 use Rattle.tables.specs.Part.{child_of, offset_place}
 use Rattle.tables.specs.Anchor.{Point, anchor_of}
 use Rattle.tables.specs.declared.anchor_rows.Rows.{Rows}

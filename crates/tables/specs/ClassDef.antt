@@ -3,9 +3,8 @@
 --   format 2: uint16 classFormat, classRangeCount, classRangeRecords[classRangeCount] of uint16 startGlyphID,
 --     endGlyphID, class
 -- A glyph that the table doesn't name has class 0.
-use Rattle.std.specs.Prelude.{Bool, true, false, ◌&&◌, List, ℕ, ◌+◌, ◌*◌, ◌-◌, eqb, leb, ltb, drop, length}
+use Rattle.std.specs.Prelude.{Bool, true, false, ◌&&◌, List, ℕ, ◌+◌, ◌*◌, ◌-◌, eqb, leb, ltb, drop, length, if◌then◌else◌}
 use Rattle.ints.specs.BigEndian.{u16_at}
-use Rattle.ints.specs.Choice.{if◌then◌else◌}
 use Rattle.tables.specs.Spans.{ascends, first_holding, range_spans, whole_spans, list_header_size, range_record}
 use Rattle.tables.specs.Spans.{range_record_size}
 

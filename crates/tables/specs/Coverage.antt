@@ -2,9 +2,8 @@
 --   format 1: uint16 coverageFormat, uint16 glyphCount, uint16 glyphArray[glyphCount]; a glyph's index is its place
 --   format 2: uint16 coverageFormat, uint16 rangeCount, rangeRecords[rangeCount] of uint16 startGlyphID, endGlyphID,
 --     startCoverageIndex; a glyph's index is startCoverageIndex + glyph - startGlyphID
-use Rattle.std.specs.Prelude.{Bool, true, false, ◌&&◌, List, ℕ, ◌+◌, ◌-◌, eqb, ltb, drop, length}
+use Rattle.std.specs.Prelude.{Bool, true, false, ◌&&◌, List, ℕ, ◌+◌, ◌-◌, eqb, ltb, drop, length, if◌then◌else◌}
 use Rattle.ints.specs.BigEndian.{u16_at}
-use Rattle.ints.specs.Choice.{if◌then◌else◌}
 use Rattle.tables.specs.Spans.{ascends, first_holding, glyph_spans, range_spans, whole_spans, glyph_size}
 use Rattle.tables.specs.Spans.{list_header_size, range_record, range_record_size}
 use Rattle.tables.specs.declared.coverage.Covered.{Covered}

@@ -1,9 +1,8 @@
 -- The MarkArray table (OpenType, GPOS): uint16 markCount, markRecords[markCount] of uint16 markClass, Offset16
 -- markAnchorOffset from the array's start. Assumes nothing.
-use Rattle.std.specs.Prelude.{Bool, ◌&&◌, List, ℕ, ◌+◌, ◌*◌, leb, ltb, drop, length}
+use Rattle.std.specs.Prelude.{Bool, ◌&&◌, List, ℕ, ◌+◌, ◌*◌, leb, ltb, drop, length, if◌then◌else◌}
 use Rattle.std.proofs.Math.Option.{Option, some, none}
 use Rattle.ints.specs.BigEndian.{u16_at}
-use Rattle.ints.specs.Choice.{if◌then◌else◌}
 use Rattle.tables.specs.Anchor.{Point, anchor_of}
 
 -- a mark: its class and its anchor

@@ -1,8 +1,7 @@
 -- Tables at offsets (OpenType, "The OpenType font file"): a table at an offset is the part of its parent from there to
 -- the end. Assumes nothing.
-use Rattle.std.specs.Prelude.{Bool, ◌&&◌, List, [], ℕ, ◌+◌, ◌*◌, eqb, leb, ltb, drop, length}
+use Rattle.std.specs.Prelude.{Bool, ◌&&◌, List, [], ℕ, ◌+◌, ◌*◌, eqb, leb, ltb, drop, length, if◌then◌else◌}
 use Rattle.ints.specs.BigEndian.{u16_at}
-use Rattle.ints.specs.Choice.{if◌then◌else◌}
 
 -- the table at an offset: nothing where the offset is 0 or past the end
 abbrev pub table_at : List ℕ → ℕ → List ℕ

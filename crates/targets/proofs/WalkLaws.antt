@@ -1,4 +1,5 @@
 -- Laws of the walk: one equation for each way that a test of it can end, and that it is refused exactly where it never ends. Assumes nothing.
+use Rattle.std.specs.Prelude.{if◌then◌else◌}
 use mathlib.Core.Path.{◌≡◌, refl, sym, ap, ◌∙◌}
 use mathlib.Core.Bool.{Bool, true, false}
 use mathlib.Core.List.{List}
@@ -7,7 +8,6 @@ use Prim.Native.Nat.{ℕ, zero, suc, ◌-◌, ◌≤◌, ◌<◌}
 use native.Mathlib.Omega.{arith}
 use lib.IntN.{ℤ}
 use lib.ListN.{length}
-use Rattle.ints.specs.Choice.{if◌then◌else◌}
 use Rattle.ints.specs.Saturating.{sat_add}
 use Rattle.ints.proofs.TestLaws.{clash}
 use Rattle.ints.specs.theorems.Steps.{steps}

@@ -1,6 +1,5 @@
 -- Which component of a ligature a mark attaches to. Assumes nothing.
-use Rattle.std.specs.Prelude.{not, ◌&&◌, ℕ, ◌-◌, min, eqb, ltb}
-use Rattle.ints.specs.Choice.{if◌then◌else◌}
+use Rattle.std.specs.Prelude.{not, ◌&&◌, ℕ, ◌-◌, min, eqb, ltb, if◌then◌else◌}
 use Rattle.slots.specs.Slot.{Slot}
 
 -- The component of a ligature with n of them that a mark attaches to, counted from 0: its own, at most

@@ -1,6 +1,5 @@
 -- Which earlier mark a mark may be stacked on (`MarkMarkPos1`). Assumes nothing.
-use Rattle.std.specs.Prelude.{Bool, ◌&&◌, ◌||◌, ℕ, eqb, ltb}
-use Rattle.ints.specs.Choice.{if◌then◌else◌}
+use Rattle.std.specs.Prelude.{Bool, ◌&&◌, ◌||◌, ℕ, eqb, ltb, if◌then◌else◌}
 use Rattle.slots.specs.Slot.{Slot}
 use Rattle.slots.specs.Fields.{flag_of}
 use Rattle.slots.specs.declared.fields.Flag.TheVariants.{Mark}

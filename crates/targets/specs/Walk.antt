@@ -1,8 +1,7 @@
 -- The cross-offset walk (`cross_offset`): the cross offsets of a slot and of its cursive parents, summed. Assumes
 -- nothing.
-use Rattle.std.specs.Prelude.{List, ℕ, zero, suc, ℤ, length}
+use Rattle.std.specs.Prelude.{List, ℕ, zero, suc, ℤ, length, if◌then◌else◌}
 use Rattle.std.proofs.Math.Option.{Option, some, none}
-use Rattle.ints.specs.Choice.{if◌then◌else◌}
 use Rattle.ints.specs.Saturating.{sat_add}
 use Rattle.slots.specs.Slot.{Slot}
 use Rattle.slots.specs.Line.{slot}

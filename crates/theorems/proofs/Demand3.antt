@@ -1,10 +1,10 @@
 -- Demand 3 of the call: on a line that isn't refused and is bounded as demand 3 says, what gpos::finish leaves meets the demand. Assumes nothing.
+use Rattle.std.specs.Prelude.{if◌then◌else◌}
 use mathlib.Core.Path.{◌≡◌, refl, sym, ap, ◌∙◌, subst}
 use mathlib.Core.Bool.{Bool, true, false}
 use mathlib.Core.List.{List}
 use Prim.Native.Nat.{ℕ}
 use Rattle.ints.specs.BigEndian.{AllBytes}
-use Rattle.ints.specs.Choice.{if◌then◌else◌}
 use Rattle.ints.proofs.TestLaws.{clash}
 use Rattle.slots.specs.Axis.{direction_of}
 use Rattle.slots.specs.Checks.{bad_line}

@@ -1,4 +1,5 @@
 -- Running a lookup: it comes to its end, its records have room in the list, more steps would change nothing, and over one slot, with one subtable, it is the single call. Assumes nothing.
+use Rattle.std.specs.Prelude.{if◌then◌else◌}
 use mathlib.Core.Path.{◌≡◌, refl, sym, ap, ap₂, subst, ◌∙◌}
 use mathlib.Core.Bool.{Bool, true, false, not, ◌||◌}
 use mathlib.Core.List.{List, [], ◌∷◌, ◌++◌, append-nil, map}
@@ -10,7 +11,6 @@ use borrow.Author.Tests.{le-ltb, ltb-true}
 use lib.Dec.{leb, ltb}
 use lib.ListN.{drop, get_or, length, length-append, length-drop, length-map}
 use lib.Seq.{take_all}
-use Rattle.ints.specs.Choice.{if◌then◌else◌}
 use Rattle.slots.specs.Axis.{direction_of}
 use Rattle.slots.specs.Checks.{bad_line}
 use Rattle.slots.specs.Line.{count, line_slots, shape_of}

@@ -1,10 +1,10 @@
 -- A value record is applied to a slot without its cluster. Assumes nothing.
+use Rattle.std.specs.Prelude.{if◌then◌else◌}
 use mathlib.Core.Bool.{Bool, true, false}
 use mathlib.Core.List.{List}
 use mathlib.Core.Path.{◌≡◌, refl}
 use Prim.Native.Nat.{ℕ, zero, suc}
 use lib.IntN.{ℤ}
-use Rattle.ints.specs.Choice.{if◌then◌else◌}
 use Rattle.ints.specs.Saturating.{sat_sub, sat_add}
 use Rattle.ints.specs.Scale.{scaled}
 use Rattle.slots.specs.Slot.{Slot}

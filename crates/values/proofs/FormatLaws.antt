@@ -1,4 +1,5 @@
 -- Laws of the format: set bits counted at once and one by one, a field that is there lies in its record, and the next field. Assumes nothing.
+use Rattle.std.specs.Prelude.{if◌then◌else◌}
 use mathlib.Core.Path.{◌≡◌, refl, sym, ap, ap₂, subst, ◌∙◌}
 use mathlib.Core.Bool.{Bool, true, false}
 use mathlib.Core.List.{List, []}
@@ -14,7 +15,6 @@ use lib.ListN.{drop, length, length-drop, take}
 use lib.Pow.{pow_mono, pow_pos, mod-pow-add, shl_exact, shr_le, shr_lt, shr-shr}
 use lib.Seq.{length-take-le}
 use borrow.Author.Tests.{leb-true}
-use Rattle.ints.specs.Choice.{if◌then◌else◌}
 use Rattle.values.specs.Format.{bit_of, field_place, record_at, record_length, set_below}
 use Rattle.values.specs.code.Format.{WholeOrEmpty}
 

@@ -1,6 +1,5 @@
 -- What a field of a value record does to a slot, in each direction. Assumes nothing.
-use Rattle.std.specs.Prelude.{Bool, true, false, ℕ, eqb, ℤ}
-use Rattle.ints.specs.Choice.{if◌then◌else◌}
+use Rattle.std.specs.Prelude.{Bool, true, false, ℕ, eqb, ℤ, if◌then◌else◌}
 use Rattle.ints.specs.Saturating.{sat_sub, sat_add}
 use Rattle.slots.specs.Axis.{horizontal}
 use Rattle.slots.specs.Slot.{Slot}

@@ -1,8 +1,7 @@
 -- The ValueFormat and the ValueRecord (OpenType, GPOS): a record has the fields whose bit is set in the format, two
 -- bytes each, in the order of the bits: 0x0001 xPlacement, 0x0002 yPlacement, 0x0004 xAdvance, 0x0008 yAdvance, 0x0010
 -- to 0x0080 the four device offsets. Assumes nothing.
-use Rattle.std.specs.Prelude.{Bool, List, [], ℕ, zero, suc, ◌+◌, ◌*◌, ◌/◌, ◌%◌, ◌^◌, eqb, leb, ℤ, drop, length, take}
-use Rattle.ints.specs.Choice.{if◌then◌else◌}
+use Rattle.std.specs.Prelude.{Bool, List, [], ℕ, zero, suc, ◌+◌, ◌*◌, ◌/◌, ◌%◌, ◌^◌, eqb, leb, ℤ, drop, length, take, if◌then◌else◌}
 use Rattle.ints.specs.Signed.{int_at}
 
 -- bit b of a format, 0 or 1

@@ -1,6 +1,5 @@
 -- Applying a value record to a slot. Assumes nothing.
-use Rattle.std.specs.Prelude.{Bool, false, not, ◌&&◌, ◌||◌, List, ℕ, zero, suc, eqb, ltb, nat_abs, length}
-use Rattle.ints.specs.Choice.{if◌then◌else◌}
+use Rattle.std.specs.Prelude.{Bool, false, not, ◌&&◌, ◌||◌, List, ℕ, zero, suc, eqb, ltb, nat_abs, length, if◌then◌else◌}
 use Rattle.ints.specs.Scale.{scaled}
 use Rattle.slots.specs.Slot.{Slot}
 use Rattle.slots.specs.declared.axis.Direction.{Direction}

@@ -1,7 +1,6 @@
 -- Where a run begins, or why it doesn't. Assumes nothing.
-use Rattle.std.specs.Prelude.{false, List, ℕ, eqb, ltb, length, replicate}
+use Rattle.std.specs.Prelude.{false, List, ℕ, eqb, ltb, length, replicate, if◌then◌else◌}
 use Rattle.std.proofs.Math.Option.{Option, some, none}
-use Rattle.ints.specs.Choice.{if◌then◌else◌}
 use Rattle.slots.specs.Axis.{direction_of}
 use Rattle.slots.specs.Slot.{Slot}
 use Rattle.slots.specs.Line.{line_slots, shape_of, shape_with}

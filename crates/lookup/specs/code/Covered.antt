@@ -1,6 +1,5 @@
 -- The next place at which a call can do more than decline without hazard. Assumes nothing.
-use Rattle.std.specs.Prelude.{true, List, ◌≡◌, ℕ, zero, suc, ◌+◌, ◌-◌, ◌*◌, ◌≤◌, ◌<◌, ltb, get_or, length}
-use Rattle.ints.specs.Choice.{if◌then◌else◌}
+use Rattle.std.specs.Prelude.{true, List, ◌≡◌, ℕ, zero, suc, ◌+◌, ◌-◌, ◌*◌, ◌≤◌, ◌<◌, ltb, get_or, length, if◌then◌else◌}
 use Rattle.slots.specs.Slot.{Slot}
 use Rattle.slots.specs.Line.{slot}
 use Rattle.tables.specs.Coverage.{coverage_at, coverage_good_at}

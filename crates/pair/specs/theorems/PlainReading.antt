@@ -1,8 +1,7 @@
 -- The plain reading of a pair set that is whole and ascending: no contract speaks of it, the theorem of `Meaning` says
 -- that the probe finds the same. Assumes nothing.
-use Rattle.std.specs.Prelude.{Bool, ◌&&◌, List, ℕ, zero, suc, ◌<◌, eqb, leb, length}
+use Rattle.std.specs.Prelude.{Bool, ◌&&◌, List, ℕ, zero, suc, ◌<◌, eqb, leb, length, if◌then◌else◌}
 use Rattle.std.proofs.Math.Option.{Option, some, none}
-use Rattle.ints.specs.Choice.{if◌then◌else◌}
 use Rattle.pair.specs.PairSet.{pair_value_count, pair_value_records, pair_value_record, second_glyph}
 use Rattle.pair.specs.declared.pair_set.Probe.{Probe}
 use Rattle.pair.specs.declared.pair_set.Probe.TheVariants.{Found, Nothing, Cut}
