@@ -1,5 +1,5 @@
-//! Links the proved library, which is for x86-64 Linux (and links where there is no system at all). `rt staticlib
-//! gpos_c` writes it to the repository's target/staticlib/; GPOS_LIB_DIR names another folder.
+//! Links the proved library, which is for x86-64 Linux (and links where there is no system at all). `tools/build`
+//! writes it to the repository's target/staticlib/; GPOS_LIB_DIR names another folder.
 use std::env;
 use std::path::Path;
 
@@ -32,6 +32,6 @@ fn is_for_target() -> bool {
 fn warn_of_missing(folder: &Path) {
     println!("cargo:warning=there is no libgpos_c.a in {}", folder.display());
     println!("cargo:warning=without it gpos can't be built; `cargo check` and `cargo doc` work");
-    println!("cargo:warning=`rt staticlib gpos_c`, run in the repository, writes it to target/staticlib");
+    println!("cargo:warning=`tools/build`, run in the repository, writes it to target/staticlib");
     println!("cargo:warning=where it is elsewhere (say, by `tools/install PREFIX`), set GPOS_LIB_DIR to its folder");
 }

@@ -132,8 +132,8 @@
 //! The work is done by `libgpos_c.a`, which is proved to end, to stay inside what it is lent, and to answer and write
 //! exactly what its contracts say. This package is a thin safe wrapper of it, in Rust's own types, and not proved
 //! itself. The archive is for x86-64 Linux, so a program or a test links only there; `cargo check` and `cargo doc` work
-//! anywhere. It is looked for in the repository's target/staticlib, where `rt staticlib gpos_c` writes it, or in the
-//! folder that the variable `GPOS_LIB_DIR` names: an absolute one, since a relative one counts from this package and
+//! anywhere. It is looked for in the repository's target/staticlib, where `tools/build` writes it, or in the folder
+//! that the variable `GPOS_LIB_DIR` names: an absolute one, since a relative one counts from this package and
 //! not from yours.
 //!
 //! The package needs no standard library. The feature `alloc`, on by default, holds `line_of` alone, which makes the
