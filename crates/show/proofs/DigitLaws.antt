@@ -7,7 +7,7 @@ use native.Mathlib.Numerals.{add-one, sub-one}
 use native.Mathlib.Omega.{arith}
 use lib.ListN.{length, take, drop, set}
 use lib.Seq.{slice, length-take-le, take-set-lt, append_snoc}
-use Rattle.io.specs.Digits.{hex_digit_ascii, last_digits, IsDigitCount}
+use Rattle.show.specs.Digits.{hex_digit_ascii, last_digits, IsDigitCount}
 
 -- ---- how many digits a number takes
 -- one digit more is taken off

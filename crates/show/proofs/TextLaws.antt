@@ -11,7 +11,7 @@ use lib.Seq.{length-take-le, take-append-add, take-append-le, take-suc-set}
 use Rattle.ints.specs.code.Signed.{val}
 use Rattle.ints.proofs.Ints.{negsuc_diff, pos_diff}
 use Rattle.ints.proofs.SignedLaws.{signed_high, signed_low}
-use Rattle.io.specs.Digits.{last_digits, IsDigitCount}
+use Rattle.show.specs.Digits.{last_digits, IsDigitCount}
 use Rattle.show.specs.Text.{end, Grown, Grows, sign, Spelled, then}
 use Rattle.show.proofs.DigitLaws.{at_most}
 

@@ -1,7 +1,7 @@
 -- The text of an integer, in ASCII. Assumes nothing.
 use Rattle.std.specs.Prelude.{List, [], ◌∷◌, ◌++◌, ◌≡◌, ℕ, ℤ, pos, negsuc, nat_abs}
 use Rattle.slots.specs.Slot.{Slot}
-use Rattle.io.specs.Digits.{last_digits, IsDigitCount}
+use Rattle.show.specs.Digits.{last_digits, IsDigitCount}
 
 -- the sign: `-` before a negative number, else nothing
 abbrev pub sign : ℤ → List ℕ

@@ -1,7 +1,7 @@
 // A signed number as text.
 ghost use Rattle.std.specs.Prelude.{◌≡◌, ◌≤◌, ◌<◌, length, take};
 ghost use Rattle.ints.specs.code.Signed.{val};
-ghost use Rattle.io.specs.Digits.{last_digits, IsDigitCount, hex_digit_ascii as Digits·glyph};
+ghost use Rattle.show.specs.Digits.{last_digits, IsDigitCount, hex_digit_ascii as Digits·glyph};
 ghost use Rattle.show.specs.Text.{Spelled};
 
 use ints::big_endian::Signed;

@@ -1,6 +1,6 @@
 -- The rest is n without its last k digits, and where more than one was taken off, something was left before the last. Assumes nothing.
-use mathlib.Core.Path.{◌≡◌, refl, ap, ◌∙◌}
-use Prim.Native.Nat.{ℕ, ◌+◌, ◌-◌, ◌/◌, ◌^◌, ◌≤◌, ◌<◌}
+use mathlib.Core.Path.{ap, ◌∙◌}
+use Prim.Native.Nat.{ℕ, ◌/◌}
 use native.Mathlib.Omega.{arith}
 use Rattle.show.proofs.DigitLaws.{again, held, wanted}
 use Rattle.show.proofs.numbers.places.Goals as goal

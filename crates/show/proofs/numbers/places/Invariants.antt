@@ -1,5 +1,5 @@
 -- The rest is n without its last k digits, and where more than one was taken off, something was left before the last. Assumes nothing.
-use mathlib.Core.Path.{◌≡◌, ◌∙◌}
+use mathlib.Core.Path.{◌≡◌}
 use Prim.Native.Nat.{◌+◌, ◌-◌, ◌/◌, ◌^◌, ◌≤◌, ◌<◌}
 use Rattle.show.proofs.numbers.places.Given as goal
 

@@ -1,12 +1,12 @@
 -- The digits that are still to write, and then those that are written, are the k digits of n. Assumes nothing.
 use mathlib.Core.Path.{◌≡◌, refl, ap, ◌∙◌}
 use mathlib.Core.List.{List, ◌++◌, append-nil}
-use Prim.Native.Nat.{ℕ, ◌≤◌}
+use Prim.Native.Nat.{ℕ}
 use native.Mathlib.Nat.{le_refl}
 use native.Mathlib.Omega.{arith}
 use lib.ListN.{length-set}
 use lib.Seq.{slice, slice_empty}
-use Rattle.io.specs.Digits.{last_digits}
+use Rattle.show.specs.Digits.{last_digits}
 use Rattle.show.proofs.DigitLaws.{moved}
 use Rattle.show.proofs.numbers.put_digits.Goals as goal
 

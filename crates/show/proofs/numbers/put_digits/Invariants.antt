@@ -1,10 +1,10 @@
 -- The digits that are still to write, and then those that are written, are the k digits of n. Assumes nothing.
-use mathlib.Core.Path.{◌≡◌, ◌∙◌}
+use mathlib.Core.Path.{◌≡◌}
 use mathlib.Core.List.{◌++◌}
 use Prim.Native.Nat.{◌≤◌}
 use lib.ListN.{length}
 use lib.Seq.{slice}
-use Rattle.io.specs.Digits.{last_digits}
+use Rattle.show.specs.Digits.{last_digits}
 use Rattle.show.proofs.numbers.put_digits.Given as goal
 
 abbrev pub invariant-loop-i : goal.invariant-loop-i

@@ -1,5 +1,4 @@
 -- From 0 up the digits are the text; below 0 they stand after the sign. Assumes nothing.
-use mathlib.Core.Path.{◌∙◌}
 use Prim.Native.Nat.{◌≤◌}
 use native.Mathlib.Omega.{arith}
 use lib.ListN.{length, length-drop, length-set, length-take}

@@ -1,7 +1,5 @@
 -- The text so far, the number's, and the byte that is stored after it. Assumes nothing.
 use native.Mathlib.Omega.{arith}
-use Prim.Native.Nat.{◌≤◌}
-use lib.ListN.{length, length-drop}
 use Rattle.show.proofs.TextLaws.{grown_put}
 use Rattle.show.proofs.rows.put.Goals as goal
 
