@@ -1,4 +1,4 @@
-// Recorded calls: read from standard input, made again, and compared with what is recorded.
+// Recorded calls: read from a list, made again, and compared with what is recorded.
 #![tactic(auto)]
 
 mod making; // the call

@@ -1,65 +1,71 @@
 // The finishing program: takes all of standard input as a line, finishes it left to right with nesting limit 64, and
-// prints its slots, or the number of the refusal. The buffer holds more than the longest line, so that a longer input
-// is refused and never cut.
+// prints its slots, or the number of the refusal. It reads more than the longest line has, so that a longer input is
+// refused and never cut.
 #![tactic(auto)]
 
 mod usage; // what it says of itself
 
-ghost use Rattle.std.specs.Prelude.{◌≤◌, length};
 ghost use Rattle.slots.specs.code.Shape.{Fits};
 ghost use Rattle.slots.specs.Line.{shape_with};
+ghost use Rattle.std.specs.Prelude.{◌≤◌};
 
 use answers::Done;
-use libc::STDIN_FILENO;
 use slots::shape::{Cut, Shape, cut_of};
+use std::alloc::Global;
+use std::env::{Env, FillError};
+use std::io;
+use std::io::{Read, Write};
+
+// Above the longest line's 24,576 bytes.
+const MOST_READ: u64 = 65536;
 
 // The n slots, a line each.
-fn show_slots(line: &[u8], n: usize)
-    requires { Fits (shape_with 24 n) line.now × (length line.now ≤ 65536) }
+fn show_slots<W: Write>(out: &mut W, line: &[u8], n: usize) -> io::Result<()>
+    requires { Fits (shape_with 24 n) line.now × (n ≤ 1024) }
 {
     let shape = Shape { size: 24, count: n };
-    let mut i = 0;
-    while i < n {
-        show::slot(line, shape, i);
-        i += 1;
+    for i in 0..n {
+        show::slot(out, line, shape, i)?;
     }
+    Ok(())
 }
 
 // A finished line: it is cut again as finishing cut it, which says how many slots there are.
-fn show_line(line: &[u8])
-    requires { length line.now ≤ 65536 }
-{
+fn show_line<W: Write>(out: &mut W, line: &[u8]) -> io::Result<()> {
     let cut = cut_of(line, 24);
     let Cut::Slots(n) = cut else {
-        return;
+        return Ok(());
     };
-    show_slots(line, n);
+    show_slots(out, line, n)
 }
 
-fn finish(line: &mut [u8])
-    requires { length line.old ≤ 65536 }
-{
+fn finish<W: Write>(out: &mut W, line: &mut [u8]) -> io::Result<()> {
     let answer = gpos::finish(line, 24, 0, 64, true);
     match answer {
-        Done::Done => show_line(line),
-        Done::Refused(r) => show::refused(r),
+        Done::Done => show_line(out, line),
+        Done::Refused(r) => show::refused(out, r),
     }
 }
 
-fn finish_input() {
-    let mut space = io::large_buffer();
-    let all: &mut [u8] = &mut space;
-    let n = io::read_full(STDIN_FILENO, all);
-    finish(&mut all[..n]);
+fn finish_input<R: Read + Drop, W: Write>(alloc: Global, input: R, out: &mut W) -> io::Result<()> {
+    let mut line = Vec::new(alloc);
+    input.take(MOST_READ).read_to_end(&mut line)?;
+    finish(out, &mut line)
+}
+
+// Whether there is any, however long it is and whatever its bytes.
+fn has_argument<E: Env>(rt: &E) -> bool {
+    !matches!(rt.arg(1, &mut []), Err(FillError::NotPresent))
 }
 
 // An argument asks for help, or is a file's name by mistake: the input stays unread, since whoever gives one didn't
 // mean what comes on standard input.
-fn main() {
-    if os::arg_count() > 1 {
-        usage::say_use();
-        return;
+fn main(rt: HostRuntime) -> io::Result<()> {
+    let mut err = rt.stderr();
+    if has_argument(&rt) {
+        return usage::say_use(&mut err);
     }
-    usage::say_waiting_at_terminal();
-    finish_input();
+    let input = rt.stdin();
+    usage::say_waiting_at_terminal(&mut err, &input)?;
+    finish_input(rt.alloc(), input, &mut rt.stdout())
 }

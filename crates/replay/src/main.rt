@@ -3,34 +3,35 @@
 #![tactic(auto)]
 
 use calls::{list_number, next};
+use std::io;
+use std::io::Read;
 
 // Replays the next call of the list, and says whether it answered and wrote what is recorded.
-fn is_next_replayed() -> bool {
-    let mut line = io::large_buffer();
-    let mut subtable = io::large_buffer();
-    let r = next(&mut line, &mut subtable);
-    r.alike
+fn is_next_replayed<R: Read>(input: &mut R) -> io::Result<bool> {
+    let mut line = [0u8; 65536];
+    let mut subtable = [0u8; 65536];
+    let r = next(input, &mut line, &mut subtable)?;
+    Ok(r.alike)
 }
 
 // Replays so many calls, and answers how many were alike before the first that differs.
-fn replayed(count: u32) -> u32 {
-    let mut k = 0;
-    while k < count {
-        if !is_next_replayed() {
-            return k;
+fn replayed<R: Read>(input: &mut R, count: u32) -> io::Result<u32> {
+    for k in 0..count {
+        if !is_next_replayed(input)? {
+            return Ok(k);
         }
-        k += 1;
     }
-    k
+    Ok(count)
 }
 
-fn main() {
-    let count = list_number();
-    let alike = replayed(count);
-    show::natural(alike as u64);
+fn main(rt: HostRuntime) -> io::Result<()> {
+    let mut input = rt.stdin();
+    let mut out = rt.stdout();
+    let count = list_number(&mut input)?;
+    let alike = replayed(&mut input, count)?;
+    show::natural(&mut out, alike as u64)?;
     if alike == count {
-        show::text(b" calls replayed, all alike\n");
-        return;
+        return show::text(&mut out, b" calls replayed, all alike\n");
     }
-    show::text(b" calls replayed alike, then one that differs\n");
+    show::text(&mut out, b" calls replayed alike, then one that differs\n")
 }

@@ -10,9 +10,11 @@ use slots::layout::{
     ATTACH_TYPE, CHAIN, CLUSTER, CLUSTERED_SIZE, SLOT_SIZE, X_ADVANCE, X_OFFSET, Y_ADVANCE,
     Y_OFFSET,
 };
+use std::io;
+use std::io::Write;
 
 // Slot i, whose bytes these are.
-fn show_slot(i: u32, slot: &[u8])
+fn show_slot<W: Write>(out: &mut W, i: u32, slot: &[u8]) -> io::Result<()>
     requires { slot_size ≤ length slot.now }
 {
     let numbers = [
@@ -25,31 +27,33 @@ fn show_slot(i: u32, slot: &[u8])
         read_i16(slot, CHAIN),
     ];
     print(
+        out,
         b"  slot #: advance # #, offset # #, type #, chain #",
         numbers,
-    );
+    )?;
     if slot.len() == CLUSTERED_SIZE {
-        show::text(b", cluster ");
-        show::natural(read_i32(slot, CLUSTER) as u64);
+        show::text(out, b", cluster ")?;
+        show::natural(out, read_i32(slot, CLUSTER) as u64)?;
     }
-    show::text(b"\n");
+    show::text(out, b"\n")
 }
 
 // The slots of a line, where it has at most four.
-fn show_slots(line: &[u8], size: usize)
+fn show_slots<W: Write>(out: &mut W, line: &[u8], size: usize) -> io::Result<()>
     requires { (slot_size ≤ size) × (size ≤ clustered_size) }
 {
     if 4 * size < line.len() {
-        return;
+        return Ok(());
     }
     let mut i = 0;
     let mut at = 0;
     while at + size <= line.len() {
         let end = at + size;
-        show_slot(i, &line[at..end]);
+        show_slot(out, i, &line[at..end])?;
         i += 1;
         at = end;
     }
+    Ok(())
 }
 
 // The size that a call names; a call that names another is refused.
@@ -75,20 +79,25 @@ fn written_size(n: Numbers) -> usize
 }
 
 // The slots of the first n bytes.
-fn show_part(bytes: &[u8], n: usize, size: usize)
+fn show_part<W: Write>(out: &mut W, bytes: &[u8], n: usize, size: usize) -> io::Result<()>
     requires { (slot_size ≤ size) × (size ≤ clustered_size) }
 {
     if n <= bytes.len() {
-        show_slots(&bytes[..n], size);
+        return show_slots(out, &bytes[..n], size);
     }
+    Ok(())
 }
 
 // The slots that a call left, in the line or in the target of a move.
-pub fn show_after(n: Numbers, line: &[u8], subtable: &[u8]) {
+pub fn show_after<W: Write>(
+    out: &mut W,
+    n: Numbers,
+    line: &[u8],
+    subtable: &[u8],
+) -> io::Result<()> {
     let size = written_size(n);
     if has_target(n) {
-        show_part(subtable, n.subtable, size);
-        return;
+        return show_part(out, subtable, n.subtable, size);
     }
-    show_part(line, n.line, size);
+    show_part(out, line, n.line, size)
 }
