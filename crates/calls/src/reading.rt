@@ -11,7 +11,8 @@ use std::io::{ErrorKind, Read};
 // Fills the first n bytes of a buffer; false where it has fewer, or the list ends before that.
 pub fn is_read<R: Read>(input: &mut R, buffer: &mut [u8], n: usize) -> io::Result<bool>
     ensures fits { IfOk result (λ read. read ≡ true → n ≤ length buffer.new) }
-    ensures bytes { IfOk result (λ read. read ≡ true → Consumes (R.remaining input.old) (R.remaining input.new) (take n buffer.new)) }
+    ensures bytes { IfOk result (λ read. read ≡ true
+        → Consumes (R.remaining input.old) (R.remaining input.new) (take n buffer.new)) }
 {
     if buffer.len() < n {
         return Ok(false);

@@ -1,4 +1,5 @@
-// Writing to a program's output, or to any other writer. Where the writer's bytes are known, the contracts say which are added.
+// Writing to a program's output, or to any other writer. Where a writer's bytes are known, the contracts say which are
+// added to them.
 ghost use Rattle.std.specs.Prelude.{◌<◌, OnOk, decimal};
 ghost use Rattle.std.specs.Io.KnownBytes.{Appends};
 ghost use Rattle.ints.specs.code.Signed.{val};
