@@ -5,6 +5,7 @@
 
 mod usage; // what it says of itself
 
+ghost use Rattle.ints.specs.Limits.{half32};
 ghost use Rattle.slots.specs.code.Shape.{Fits};
 ghost use Rattle.slots.specs.Line.{shape_with};
 ghost use Rattle.std.specs.Prelude.{◌≤◌};
@@ -21,7 +22,7 @@ const MOST_READ: u64 = 65536;
 
 // The n slots, a line each.
 fn show_slots<W: Write>(out: &mut W, line: &[u8], n: usize) -> io::Result<()>
-    requires { Fits (shape_with 24 n) line.now × (n ≤ 1024) }
+    requires { Fits (shape_with 24 n) line.now × (n ≤ half32) }
 {
     let shape = Shape { size: 24, count: n };
     for i in 0..n {
