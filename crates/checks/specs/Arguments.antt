@@ -23,7 +23,8 @@ call_tests ss direction s u bad_index = slot_tests ss direction (bad_scale s u) 
 
 -- refusals 2 to 6: and a bad subtable
 abbrev pub applying_tests : List Slot → ℕ → ℕ → ℕ → Bool → Bool → List (Bool × ℕ)
-applying_tests ss direction s u bad_index bad_subtable = call_tests ss direction s u bad_index ++ ((bad_subtable, 6) ∷ [])
+applying_tests ss direction s u bad_index bad_subtable =
+    call_tests ss direction s u bad_index ++ ((bad_subtable, 6) ∷ [])
 
 -- An applying call: refusals 2 to 6, by whether its index is bad in these slots and its subtable is; else what its
 -- core, by the direction, says and leaves.

@@ -28,8 +28,8 @@ use slots::shape::Shape;
 use tables::anchor::{Point, coordinate_on};
 use tables::coverage::Covered;
 
-// The core: slot idx is joined to the previous slot, or the line left as it was. Whatever a public call refuses has been
-// refused before.
+// The core: slot idx is joined to the previous slot, or the line left as it was. Whatever a public call refuses has
+// been refused before.
 pub fn apply(
     line: &mut [u8],
     shape: Shape,

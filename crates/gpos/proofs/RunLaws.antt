@@ -176,7 +176,7 @@ length_subtables [] b = refl
 length_subtables (n ∷ ns) b = ap suc (length_subtables ns _)
 
 -- where a run goes on: code's state stands for the definition's stage, and is further on
-module _ (n c end : ℕ) (st : State) (m : Memory) (in_line : st.index < n) (in_List : st.subtable < c) where
+module _ (n c end : ℕ) (st : State) (m : Memory) (in_line : st.index < n) (in_list : st.subtable < c) where
   next_stage : (s : Said) → after n c (place_of st) s ≡ stage_of n c (next_state end st m s)
   next_stage (applied k hs a) = rw (lt-ltb 0 c (omega arith))
   next_stage (declined hs) = rw (lt-ltb st.index n in_line)

@@ -27,5 +27,6 @@ ToClustersCall l t r t' =
 -- clusters
 abbrev pub FromClustersCall : List ℕ → List ℕ → Moved → List ℕ → Type 0
 FromClustersCall l t r t' =
-    Outcome slot_size t (move_said clustered_size slot_size (not (is_numbered_from 0 (line_slots clustered_size l))) l t)
+    Outcome slot_size t
+    (move_said clustered_size slot_size (not (is_numbered_from 0 (line_slots clustered_size l))) l t)
     (line_slots clustered_size l) (said_moved r) t'

@@ -10,10 +10,10 @@ use lookup::turns::turn;
 use records::HazardRecord;
 
 // Runs a lookup over a line: at each slot, from slot 0 up, its subtables are tried in their order, and the first that
-// applies wins. The subtables lie end to end, with their lengths in a list; the hazards of every single call, of declines
-// too, are put into `list` in the order in which they arise. The result is that of the single calls made one after
-// another, with the neighbours that the seen bits give; line and subtables are checked once. Refusals 1 to 4, 8, 6; at a
-// single call that is refused with 7 the run stops.
+// applies wins. The subtables lie end to end, with their lengths in a list; the hazards of every single call, of
+// declines too, are put into `list` in the order in which they arise. The result is that of the single calls made one
+// after another, with the neighbours that the seen bits give; line and subtables are checked once. Refusals 1 to 4, 8,
+// 6; at a single call that is refused with 7 the run stops.
 pub fn lookup(
     line: &mut [u8],
     subtables: &[u8],

@@ -65,8 +65,8 @@ to_c (Refused r) = laid 3 (refusal_number r) 0 0 None
 abbrev pub not_run : ℕ → CRan
 not_run n = record { refusal = n; attached = 0; index = 0; count = 0 }
 
--- the run of a lookup: refusal 0 where it came to the line's end; 7 where it stopped, with the index; what a case doesn't
--- have is 0
+-- the run of a lookup: refusal 0 where it came to the line's end; 7 where it stopped, with the index; what a case
+-- doesn't have is 0
 abbrev pub ran_to_c : Ran → CRan
 ran_to_c (RanToEnd n a) = record { refusal = 0; attached = flag a; index = 0; count = n }
 ran_to_c (RanInto7 i n) = record { refusal = 7; attached = 0; index = i; count = n }

@@ -28,7 +28,8 @@ seen_from ss i = or_missing (length ss) (lowest (seen ss) i (length ss - i))
 abbrev pub second : List Slot → ℕ → Neighbour
 second ss i = seen_from ss (i + 1)
 
--- the previous glyph of a cursive attachment, or the earlier mark: the highest seen slot below slot i, or missing, from 0
+-- the previous glyph of a cursive attachment, or the earlier mark: the highest seen slot below slot i, or missing, from
+-- 0
 abbrev pub previous : List Slot → ℕ → Neighbour
 previous ss i = or_missing 0 (nearest (seen ss) i)
 

@@ -10,8 +10,8 @@ use Rattle.lookup.specs.Subtables.{every, most_subtables, subtables, total}
 use Rattle.lookup.specs.declared.kinds.Kind.{Kind}
 use Rattle.lookup.specs.declared.state.Settings.{Settings}
 
--- refusal 8: not one to eight subtables, lengths that don't add up to the buffer b, or a list of fewer places than twice
--- the n slots times the subtables
+-- refusal 8: not one to eight subtables, lengths that don't add up to the buffer b, or a list of fewer places than
+-- twice the n slots times the subtables
 abbrev pub unfit : (b lengths : List ℕ) (n places : ℕ) → Bool
 unfit b lengths n places =
     ltb (length lengths) 1

@@ -1,6 +1,6 @@
 // A run of a lookup over a line: one single call after another, each with the neighbours that the seen bits give. Line,
-// numbers and subtables are checked once, before it begins: what was found then holds to the end, since no call writes a
-// glyph, a ligature id, a component or a flag.
+// numbers and subtables are checked once, before it begins: what was found then holds to the end, since no call writes
+// a glyph, a ligature id, a component or a flag.
 #![tactic(auto)]
 
 pub mod kinds; // the lookup types

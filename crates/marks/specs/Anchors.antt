@@ -74,4 +74,5 @@ after_rows target t k m mark base Absent = missing
 
 -- the anchors by which mark m, in the slot `mark`, attaches to base k, in the slot `base`: the rows must be whole
 unfoldable pub anchors_for : Target → List ℕ → ℕ → ℕ → Slot → Slot → Anchors
-anchors_for target t k m mark base = after_rows target t k m mark base (rows_of (row_table target t k) (mark_class_count t))
+anchors_for target t k m mark base =
+    after_rows target t k m mark base (rows_of (row_table target t k) (mark_class_count t))

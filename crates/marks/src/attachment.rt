@@ -33,8 +33,8 @@ use targets::search::Found;
 // 2^32: -n is stored as 2^32 - n.
 const TWO_TO_32: usize = 4294967296;
 
-// The core: makes the plan for the mark in slot idx, and carries it out. Whatever a public call refuses, but for refusal
-// 7, has been refused before.
+// The core: makes the plan for the mark in slot idx, and carries it out. Whatever a public call refuses, but for
+// refusal 7, has been refused before.
 pub fn apply(
     line: &mut [u8],
     shape: Shape,

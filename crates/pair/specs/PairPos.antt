@@ -53,7 +53,8 @@ class1_records = 16
 -- the class lists of format 2 are good
 unfoldable pub classes_good : List ℕ → Bool
 classes_good t =
-    if eqb (pos_format t) 1 then true else class_good_at t (class_def1_offset t) && class_good_at t (class_def2_offset t)
+    if eqb (pos_format t) 1 then true
+    else class_good_at t (class_def1_offset t) && class_good_at t (class_def2_offset t)
 
 -- what refusal 6 asks of the subtable: not too long, its header whole, its value formats known, its coverage and class
 -- lists good

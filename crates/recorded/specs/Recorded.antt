@@ -30,7 +30,8 @@ numbers_of head = record {
 
 -- the hazard in the three numbers from number k on
 abbrev pub recorded_hazard : List ℕ → ℕ → HazardRecord
-recorded_hazard head k = record { kind = number_at head k; start = number_at head (k + 1); end = number_at head (k + 2) }
+recorded_hazard head k =
+    record { kind = number_at head k; start = number_at head (k + 1); end = number_at head (k + 2) }
 
 -- the answer
 abbrev pub recorded_answer : List ℕ → CAnswer

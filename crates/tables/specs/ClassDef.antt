@@ -13,8 +13,8 @@ abbrev pub class_format : List ℕ → ℕ
 class_format t = u16_at t 0
 
 -- format 1: the glyph with which the array starts
-abbrev pub start_glyph_iD : List ℕ → ℕ
-start_glyph_iD t = u16_at t 2
+abbrev pub start_glyph_id : List ℕ → ℕ
+start_glyph_id t = u16_at t 2
 
 -- format 1: how many glyphs
 abbrev pub glyph_count : List ℕ → ℕ
@@ -53,8 +53,8 @@ class_good t =
 -- the class of a glyph in a list of format 1
 abbrev pub array_class : List ℕ → ℕ → ℕ
 array_class t g =
-    if leb (start_glyph_iD t) g && ltb (g - start_glyph_iD t) (glyph_count t)
-    then u16_at t (class_value_place (g - start_glyph_iD t)) else 0
+    if leb (start_glyph_id t) g && ltb (g - start_glyph_id t) (glyph_count t)
+    then u16_at t (class_value_place (g - start_glyph_id t)) else 0
 
 -- the class of a glyph in a list of format 2, by the range that holds it: k, of n
 abbrev pub range_class : List ℕ → ℕ → ℕ → ℕ

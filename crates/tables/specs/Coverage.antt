@@ -22,8 +22,8 @@ abbrev pub range_count : List ℕ → ℕ
 range_count t = u16_at t 2
 
 -- format 2: the first glyph of range k
-abbrev pub start_glyph_iD : List ℕ → ℕ → ℕ
-start_glyph_iD t k = u16_at t (range_record k)
+abbrev pub start_glyph_id : List ℕ → ℕ → ℕ
+start_glyph_id t k = u16_at t (range_record k)
 
 -- format 2: its coverage index
 abbrev pub start_coverage_index : List ℕ → ℕ → ℕ
@@ -45,7 +45,7 @@ glyph_index n k = if ltb k n then Index k else Not
 
 -- format 2: the same
 abbrev pub range_index : List ℕ → ℕ → ℕ → ℕ → Covered
-range_index t n g k = if ltb k n then Index (start_coverage_index t k + g - start_glyph_iD t k) else Not
+range_index t n g k = if ltb k n then Index (start_coverage_index t k + g - start_glyph_id t k) else Not
 
 -- the coverage index of a glyph in a table that passed the check
 abbrev pub coverage_index : List ℕ → ℕ → Covered

@@ -67,9 +67,9 @@ abbrev pub range_record : ℕ → ℕ
 range_record k = span_place range_record_size k
 
 -- from startGlyphID to endGlyphID
-abbrev pub to_end_glyph_iD : ℕ
-to_end_glyph_iD = 2
+abbrev pub to_end_glyph_id : ℕ
+to_end_glyph_id = 2
 
 -- the spans of range records
 abbrev pub range_spans : List ℕ → ℕ → List Span
-range_spans t n = spans t range_record_size to_end_glyph_iD n
+range_spans t n = spans t range_record_size to_end_glyph_id n

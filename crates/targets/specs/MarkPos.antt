@@ -38,7 +38,8 @@ unfoldable pub marks_good : List ℕ → Bool
 marks_good t =
     leb (length t) most_bytes
     && (leb header_bytes (length t)
-    && (eqb (pos_format t) 1 && (coverage_good_at t (mark_coverage_offset t) && coverage_good_at t (base_coverage_offset t))))
+    && (eqb (pos_format t) 1 && (coverage_good_at t (mark_coverage_offset t)
+    && coverage_good_at t (base_coverage_offset t))))
 
 -- the coverage index of a glyph among the marks
 unfoldable pub mark_index : List ℕ → ℕ → Covered

@@ -40,7 +40,8 @@ is_covered Not = false
 -- glyph that isn't accepted wants marks on it (harfbuzz #4124). Accepted is enough too: what isn't covered then ends
 -- the search, and nothing farther is looked for.
 unfoldable pub stops_at : Target → List ℕ → List Slot → ℕ → Bool
-stops_at target t ss i = flag_of Seen (slot ss i) && (accepted target ss i || is_covered (base_index t (slot ss i).glyph))
+stops_at target t ss i =
+    flag_of Seen (slot ss i) && (accepted target ss i || is_covered (base_index t (slot ss i).glyph))
 
 -- the nearest slot before idx at which the search stops
 abbrev pub found_for : Target → List ℕ → List Slot → ℕ → Option ℕ

@@ -9,7 +9,8 @@ use Rattle.values.specs.FieldEffect.{applies, with_effect, effect_of}
 -- field b of the record r, of the format f, applied to a slot in the direction d at the scale s / u: nothing where the
 -- record lacks it
 abbrev pub with_field : ℕ → ℕ → Direction → List ℕ → ℕ → ℕ → Slot → Slot
-with_field s u d r f b slot = if has f b then with_effect (effect_of d b) (scaled (field_value r f b) s u) slot else slot
+with_field s u d r f b slot =
+    if has f b then with_effect (effect_of d b) (scaled (field_value r f b) s u) slot else slot
 
 -- the first n fields, in bit order
 unfoldable pub with_fields : ℕ → ℕ → Direction → List ℕ → ℕ → ℕ → Slot → Slot

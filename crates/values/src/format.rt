@@ -24,7 +24,8 @@ pub fn field_place(format: u32, field: u32) -> usize
 // The next field of a record, from a field on.
 pub fn next_field(format: u32, field: u32) -> u32
     requires { (format < 256) × (field ≤ 8) × (0 < format / 2 ^ field) }
-    ensures { (result ≡ field + count_trailing_zeros 32 (format / 2 ^ field)) × (bit_of format result ≡ 1) × (result < 8) }
+    ensures { (result ≡ field + count_trailing_zeros 32 (format / 2 ^ field))
+        × (bit_of format result ≡ 1) × (result < 8) }
 {
     field + u32::trailing_zeros(format >> field)
 }
