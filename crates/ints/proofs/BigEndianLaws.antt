@@ -1,12 +1,13 @@
 -- Laws of numbers in bytes, once over the width. Assumes nothing.
 use mathlib.Core.Path.{◌≡◌, refl, sym, ap, ◌∙◌}
 use mathlib.Core.List.{List, [], ◌∷◌, ◌++◌, append_assoc, append-nil}
-use Prim.Native.Nat.{ℕ, zero, suc, ◌+◌, ◌*◌, ◌/◌, ◌%◌, ◌^◌, ◌<◌, ◌≤◌}
+use Prim.Native.Nat.{ℕ, zero, suc, ◌+◌, ◌-◌, ◌*◌, ◌/◌, ◌%◌, ◌^◌, ◌<◌, ◌≤◌}
 use native.Mathlib.Nat.{pow-suc, add-zero}
 use native.Mathlib.Omega.{arith}
 use native.Mathlib.Numerals.{add-one}
 use lib.ListN.{length, get_or, set, take, drop, length-append, length-drop, take-append-drop}
 use lib.Seq.{drop-drop, get_or_at, get_or-drop, get_or-set_other, get_or-set_same, length-take-le, sets, sets-eq, take-suc}
+use borrow.Rule.Slice.PartMut.{put_mid}
 use Rattle.ints.specs.BigEndian.{AllBytes, digits, nat_at, with_nat}
 
 -- ---- the bytes of a number
@@ -99,18 +100,21 @@ module _ (l : List ℕ) (at : ℕ) where
   unfolding nat_at
   nat_at_4 = rw (add-zero at) (omega arith)
 
-  pub with_nat_2 : (n : ℕ) → n < 65536 → with_nat 2 l at n ≡ set (set l at (n / 256)) (at + 1) (n % 256)
+  pub with_nat_2 : (n : ℕ) → with_nat 2 l at n ≡ set (set l at (n / 256 % 256)) (at + 1) (n % 256)
   unfolding with_nat digits
-  with_nat_2 n h =
-      let a : n / 256 % 256 ≡ n / 256 = omega arith in
-      rw (add-one at, a)
+  with_nat_2 n = rw (add-one at)
 
-  pub with_nat_4 : (n : ℕ) → n < 4294967296 → with_nat 4 l at n ≡ set (set (set (set l at (n / 16777216)) (at + 1) (n / 65536 % 256)) (at + 2) (n / 256 % 256)) (at + 3) (n % 256)
-  unfolding with_nat digits
-  with_nat_4 n h =
-      let a : n / 256 / 256 / 256 % 256 ≡ n / 16777216 = omega arith in
-      let b : n / 256 / 256 % 256 ≡ n / 65536 % 256 = omega arith in
-      let i : at + 1 ≡ suc at = omega arith in
-      let j : at + 2 ≡ suc (suc at) = omega arith in
-      let k : at + 3 ≡ suc (suc (suc at)) = omega arith in
-      rw (i, j, k, a, b)
+-- bytes copied over a part are a write of their number
+pub put_digits : (w : ℕ) (l ys : List ℕ) (at n : ℕ) → at + w ≤ length l → ys ≡ digits w n → put_mid at (at + w - at) l ys ≡ with_nat w l at n
+unfolding with_nat
+put_digits w l ys at n f e =
+    let k : at + w - at ≡ w = omega arith in
+    let d = length_digits w n in
+    rw (e, k, drop-drop w at l, sets-eq (digits w n) l at (omega arith), d, append_assoc (take at l) (digits w n) (drop (at + w) l))
+
+pub digits_4 : (n : ℕ) → digits 4 n ≡ (n / 16777216 % 256 ∷ n / 65536 % 256 ∷ n / 256 % 256 ∷ n % 256 ∷ [])
+unfolding digits
+digits_4 n =
+    let a : n / 256 / 256 / 256 % 256 ≡ n / 16777216 % 256 = omega arith in
+    let b : n / 256 / 256 % 256 ≡ n / 65536 % 256 = omega arith in
+    rw (a, b)

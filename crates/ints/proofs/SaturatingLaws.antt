@@ -1,17 +1,18 @@
 -- Laws of clamping to 32 bits, and of the sums that code computes on v + 2 ^ 31. Assumes nothing.
 use mathlib.Core.Path.{◌≡◌, refl, sym, ap, ◌∙◌}
-use Prim.Native.Nat.{ℕ, ◌+◌, ◌-◌, ◌%◌, ◌<◌, ◌≤◌, min}
+use Prim.Native.Nat.{ℕ, ◌+◌, ◌%◌, ◌<◌, ◌≤◌, max, min}
 use native.Mathlib.Decide.{dec_le, dec_lt}
 use native.Mathlib.Omega.{arith}
 use borrow.Author.Tests.{lt-ltb, le-ltb}
 use lib.Dec.{ltb}
 use lib.IntN.{ℤ, pos, negsuc, neg_ℤ, nat_abs, ◌+ℤ◌, ◌-ℤ◌}
 use lib.Signed.{lt_z, mag}
+use mir.Syntax.{w32}
+use Rattle.std.specs.Int.{saturate_signed}
 use Rattle.ints.specs.Signed.{InBytes, signed}
 use Rattle.ints.specs.code.Signed.{val}
 use Rattle.ints.specs.Saturating.{clamp32, sat_sub, minus, sat_neg, sat_add}
-use Rattle.ints.specs.code.Saturating.{unlifted}
-use Rattle.ints.proofs.Ints.{add_diff, diff, diff_of, dn, eq_diff, lt_diff, neg_diff, one_side, sub_pos, up}
+use Rattle.ints.proofs.Ints.{diff, diff_of, dn, eq_diff, lt_diff, one_side, sub_pos, up}
 use Rattle.ints.proofs.SignedLaws.{signed_high, signed_low}
 use Rattle.ints.proofs.SizeLaws.{abs_add, abs_neg, abs_sub, apart, mag_abs, mag_up}
 
@@ -88,40 +89,6 @@ lifted v h = go (dec_le 2147483648 v)
     go (no k) =
         sub_pos ((v + 2147483648) % 4294967296) 2147483648 ∙ sym (signed_low 4 v ((v + 2147483648) % 4294967296) 2147483648 (omega arith) (omega arith))
 
--- a - b brought into the range from 0 to 2 ^ 32 - 1 is a - b - 2 ^ 31 clamped, and lifted
-clamp_lifted : (a b : ℕ) → unlifted (min (a - b) 4294967295) ≡ clamp32 (diff a (b + 2147483648))
-clamp_lifted a b = go (dec_lt a b) (dec_lt (b + 4294967295) a)
-  where
-    go : Dec (a < b) → Dec (b + 4294967295 < a) → unlifted (min (a - b) 4294967295) ≡ clamp32 (diff a (b + 2147483648))
-    go (yes l) h =
-        let e : min (a - b) 4294967295 ≡ 0 = omega arith in
-        rw (e, clamp_low a (b + 2147483648) (omega arith))
-    go (no l) (yes h) =
-        let e : min (a - b) 4294967295 ≡ 4294967295 = omega arith in
-        rw (e, clamp_high a (b + 2147483648) (omega arith))
-    go (no l) (no h) =
-        let e : min (a - b) 4294967295 ≡ a - b = omega arith in
-        rw (e, clamp_in a (b + 2147483648) (omega arith) (omega arith), sub_pos (a - b) 2147483648) (eq_diff _ _ _ _ (omega arith))
-
--- so a sum and a difference of lifted numbers saturate as code computes them
-module _ (x w : ℕ) where
-  pub lifted_plus : unlifted (min (x + w - 2147483648) 4294967295) ≡ sat_add (unlifted x) (unlifted w)
-  lifted_plus = clamp_lifted (x + w) 2147483648 ∙ rw (sub_pos x 2147483648, sub_pos w 2147483648, add_diff)
-
-  pub lifted_less : unlifted (min (x + 2147483648 - w) 4294967295) ≡ sat_sub (unlifted x) (unlifted w)
-  lifted_less = clamp_lifted (x + 2147483648) w ∙ rw (sub_pos x 2147483648, sub_pos w 2147483648, neg_diff, add_diff) (ap clamp32 (eq_diff _ _ _ _ (omega arith)))
-
--- a sum, a difference and a negation of lifted numbers, each held 2 ^ 32 higher
-module _ (x y : ℕ) where
-  pub add_lifted : pos (x + y) -ℤ pos 4294967296 ≡ (pos x -ℤ pos 2147483648) +ℤ (pos y -ℤ pos 2147483648)
-  add_lifted = rw (sub_pos (x + y) 4294967296, sub_pos x 2147483648, sub_pos y 2147483648, add_diff)
-
-  pub sub_lifted : y ≤ x + 4294967296 → pos (x + 4294967296 - y) -ℤ pos 4294967296 ≡ (pos x -ℤ pos 2147483648) -ℤ (pos y -ℤ pos 2147483648)
-  sub_lifted h = rw (sub_pos (x + 4294967296 - y) 4294967296, sub_pos x 2147483648, sub_pos y 2147483648, neg_diff, add_diff) (eq_diff _ _ _ _ (omega arith))
-
-pub neg_lifted : (x : ℕ) → x ≤ 6442450944 → pos (6442450944 - x) -ℤ pos 4294967296 ≡ neg_ℤ (pos x -ℤ pos 2147483648)
-neg_lifted x h = rw (sub_pos (6442450944 - x) 4294967296, sub_pos x 2147483648, neg_diff) (eq_diff _ _ _ _ (omega arith))
-
 -- n - 2 ^ 32 brought to 32 bits: below, above, and where it is a number of 32 bits
 pub lowered_low : (n : ℕ) → n < 2147483648 → clamp32 (pos n -ℤ pos 4294967296) ≡ val 2147483648
 unfolding signed
@@ -142,3 +109,30 @@ lowered_in n h k = go (dec_le 4294967296 n)
         signed_low 4 (n % 4294967296) n 4294967296 (omega arith) (omega arith) ∙ sym (lowered n n 4294967296 (omega arith) (omega arith) refl)
     go (no q) =
         signed_high 4 (n % 4294967296) n 4294967296 (omega arith) (omega arith) ∙ sym (lowered n n 4294967296 (omega arith) (omega arith) refl)
+
+pub lowered_to : (n m : ℕ) → m ≡ max 2147483648 (min n 6442450943) → val (m % 4294967296) ≡ clamp32 (pos n -ℤ pos 4294967296)
+lowered_to n m e = go (dec_lt n 2147483648) (dec_lt 6442450943 n)
+  where
+    at : {k : ℕ} → m ≡ k → val (m % 4294967296) ≡ val (k % 4294967296)
+    at e = ap (λ (k : ℕ). val (k % 4294967296)) e
+
+    go : Dec (n < 2147483648) → Dec (6442450943 < n) → val (m % 4294967296) ≡ clamp32 (pos n -ℤ pos 4294967296)
+    go (yes l) h = at {k = 2147483648} (omega arith) ∙ sym (lowered_low n l)
+    go (no l) (yes h) = at {k = 6442450943} (omega arith) ∙ sym (lowered_high n (omega arith))
+    go (no l) (no h) = at {k = n} (omega arith) ∙ lowered_in n (omega arith) (omega arith)
+
+-- the library's clamping is this one
+pub saturated : (z : ℤ) → saturate_signed w32 z ≡ clamp32 z
+saturated z = by_clamp (λ w. saturate_signed w32 z ≡ w) z (low z) (high z) (inside z)
+  where
+    low : (z : ℤ) → up z + 2147483648 < dn z → saturate_signed w32 z ≡ minus 2147483648
+    low (pos n) h = absurd (omega arith)
+    low (negsuc n) h = ap negsuc (omega arith)
+
+    high : (z : ℤ) → dn z + 2147483647 < up z → saturate_signed w32 z ≡ pos 2147483647
+    high (pos n) h = ap pos (omega arith)
+    high (negsuc n) h = absurd (omega arith)
+
+    inside : (z : ℤ) → dn z ≤ up z + 2147483648 → up z ≤ dn z + 2147483647 → saturate_signed w32 z ≡ z
+    inside (pos n) h k = ap pos (omega arith)
+    inside (negsuc n) h k = ap negsuc (omega arith)

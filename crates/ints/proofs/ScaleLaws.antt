@@ -1,17 +1,20 @@
 -- The scale: the quotient that code computes, the mirror, and that it rounds to the nearest, a tie away from zero. Assumes nothing.
 use mathlib.Core.Path.{◌≡◌, refl, sym, ap, ◌∙◌}
 use Prim.Native.Nat.{ℕ, zero, suc, ◌+◌, ◌*◌, ◌-◌, ◌/◌, ◌%◌, ◌<◌, ◌≤◌}
-use native.Mathlib.Nat.{div-div-eq-div-mul, div-eq_of_lt, div-lt_iff_lt-mul, div-mul-le_self, div-zero, lt-div-mul-add, mul-le-mul, mul-le-mul_right}
+use native.Mathlib.Nat.{div-div-eq-div-mul, div-eq_of_lt, div-mul-le_self, div-zero, lt-div-mul-add, mul-le-mul_right}
 use native.Mathlib.Decide.{dec_lt}
 use native.Mathlib.Omega.{arith}
 use lib.IntN.{ℤ, pos, negsuc, neg_ℤ, nat_abs, ◌*ℤ◌, neg_ℤ-neg_ℤ}
-use Rattle.ints.specs.Saturating.{minus}
+use borrow.Author.Tests.{le-ltb}
+use lib.Signed.{lt_z}
+use mathlib.Core.Bool.{true, false}
 use Rattle.ints.specs.Scale.{rounded, scaled, with_sign_of}
 use Rattle.ints.specs.code.Signed.{val}
 use Rattle.ints.specs.theorems.Scale.{away, Rounding}
 use Rattle.ints.proofs.Ints.{dn, dn_mul, dn_neg, up, up_mul, up_neg}
 use Rattle.ints.proofs.SignedLaws.{signed_neg, signed_pos}
 use Rattle.ints.proofs.SizeLaws.{abs_neg, apart}
+use Rattle.ints.proofs.TestLaws.{clash}
 
 -- dividing by 2 m is halving and then dividing by m, so half of an odd m may be cut
 pub rounded_half : (n m : ℕ) → rounded n m ≡ (n + m / 2) / m
@@ -39,32 +42,28 @@ pub size_high : (v : ℕ) → 2147483648 ≤ v → v < 4294967296 → nat_abs (v
 size_high v h k = ap nat_abs (signed_neg 4 v h k) ∙ omega arith
 
 -- a size that is given a sign, in bits
-module _ (v n : ℕ) (k : n < 2147483648) where
-  pub sign_low : v < 2147483648 → val n ≡ with_sign_of (val v) n
-  sign_low h = rw (signed_pos 4 v h) (signed_pos 4 n k)
+pub plus_in : (z : ℤ) (n : ℕ) → n < 2147483648 → lt_z z (pos 0) ≡ false → val n ≡ with_sign_of z n
+plus_in (pos _) n k e = signed_pos 4 n k
+plus_in (negsuc _) n k e = clash (cc)
 
-  pub sign_high : 2147483648 ≤ v → v < 4294967296 → val ((4294967296 - n) % 4294967296) ≡ with_sign_of (val v) n
-  sign_high h l = rw (signed_neg 4 v h l) (negated n k)
-    where
-      negated : (n : ℕ) → n < 2147483648 → val ((4294967296 - n) % 4294967296) ≡ minus n
-      negated zero k = signed_pos 4 0 k
-      negated (suc m) k =
-          let e : (4294967296 - suc m) % 4294967296 ≡ 4294967296 - suc m = omega arith in
-          let f : 4294967296 - suc (4294967296 - suc m) ≡ m = omega arith in
-          ap val e ∙ signed_neg 4 (4294967296 - suc m) (omega arith) (omega arith) ∙ ap negsuc f
+pub minus_in : (z : ℤ) (n r : ℕ) → n < 2147483648 → r < 4294967296 → (r + n) % 4294967296 ≡ 0 → lt_z z (pos 0) ≡ true → val r ≡ with_sign_of z n
+minus_in (pos a) n r k l s e = clash (cc (le-ltb a 0 (omega arith)))
+minus_in (negsuc _) zero r k l s e = let f : r ≡ 0 = omega arith in ap val f ∙ signed_pos 4 0 k
+minus_in (negsuc _) (suc m) r k l s e =
+    let f : 4294967296 - suc r ≡ m = omega arith in
+    signed_neg 4 r (omega arith) l ∙ ap negsuc f
 
 pub abs_sign : (v : ℤ) (n : ℕ) → nat_abs (with_sign_of v n) ≡ n
 abs_sign (pos _) n = refl
 abs_sign (negsuc _) n = abs_neg (pos n)
 
--- the largest number that is divided, and its quotient
-pub product_fits : (n s : ℕ) → n ≤ 65536 → s ≤ 32768 → n * s ≤ 2147483648
-product_fits n s h k = mul-le-mul h k
-
-pub quotient_fits : (n u : ℕ) → n ≤ 2147483648 → 16 ≤ u → (n + u / 2) / u ≤ 134217728
-quotient_fits n u h k =
-    let t : (n + u / 2) / u < 134217729 = (div-lt_iff_lt-mul {k = u} (omega arith)).1 (omega arith) in
-    omega arith
+-- the three steps of the definition, and the bound of the size
+pub scaled_in : (z : ℤ) (n m r s u : ℕ) → n ≡ nat_abs z → (m ≡ rounded (n * s) u) × (m ≤ 134217728) → val r ≡ with_sign_of z m → (val r ≡ scaled z s u) × (nat_abs (val r) ≤ 134217728)
+unfolding scaled
+scaled_in z n m r s u e f g = (
+  g ∙ ap (with_sign_of z) (f.0 ∙ ap (λ (k : ℕ). rounded (k * s) u) e),
+  rw (g, abs_sign) f.1,
+)
 
 -- ---- it rounds to the nearest, a tie away from zero
 -- q m is at most half of m above n, and less than that below

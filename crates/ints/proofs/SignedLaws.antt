@@ -7,6 +7,10 @@ use native.Mathlib.Decide.{dec_lt}
 use native.Mathlib.Omega.{arith}
 use borrow.Author.Tests.{lt-ltb, le-ltb}
 use lib.IntN.{ℤ, pos, negsuc}
+use mir.Syntax.{w16, w32}
+use mir.Val.{of_z, SFits, to_z}
+use mir.Facts.{Fits-of_z, of_z-to_z, to_z-of_z}
+use lib.Signed.{mag}
 use lib.ListN.{length, take, drop}
 use Rattle.ints.specs.BigEndian.{AllBytes, digits, nat_at}
 use Rattle.ints.specs.Signed.{half, InBytes, int_at, pattern, signed, with_int}
@@ -103,3 +107,30 @@ digits_int_at w l at h f = rw (pattern_signed w (nat_at w l at) (nat_at_fits w l
 pub int_at_digits : (w : ℕ) (z : ℤ) → 1 ≤ w → InBytes w z → (t : List ℕ) → int_at w (digits w (pattern w z) ++ t) 0 ≡ z
 unfolding int_at
 int_at_digits w z o h t = ap (signed w) (nat_at_digits w (pattern w z) (pattern_fits w z h) t) ∙ signed_pattern w z o h
+
+-- ---- the library's signed numbers: a cast reads the same patterns
+pub cast_16 : (n : ℕ) → n < 65536 → to_z w16 n ≡ signed 2 n
+cast_16 n h = go (dec_lt n 32768)
+  where
+    go : Dec (n < 32768) → to_z w16 n ≡ signed 2 n
+    go (yes l) = rw (signed_pos 2 n l, lt-ltb n 32768 l)
+    go (no f) = rw (signed_neg 2 n (omega arith) h, le-ltb n 32768 (omega arith))
+
+pub cast_32 : (n : ℕ) → n < 4294967296 → to_z w32 n ≡ val n
+cast_32 n h = go (dec_lt n 2147483648)
+  where
+    go : Dec (n < 2147483648) → to_z w32 n ≡ val n
+    go (yes l) = rw (signed_pos 4 n l, lt-ltb n 2147483648 l)
+    go (no f) = rw (signed_neg 4 n (omega arith) h, le-ltb n 2147483648 (omega arith))
+
+pub val_cast : (z : ℤ) → SFits w32 z → val (of_z w32 z) ≡ z
+val_cast z h = sym (cast_32 (of_z w32 z) (Fits-of_z h).fits) ∙ to_z-of_z h
+
+-- what a function of the library gives back, and what is passed to it
+pub returned : (r : ℕ) (z : ℤ) → mag z < 2147483648 → r ≡ of_z w32 (to_z w32 (of_z w32 z)) → val r ≡ z
+returned r z h e =
+    let f : SFits w32 z = record { sfits = h } in
+    ap val (e ∙ ap (of_z w32) (to_z-of_z f)) ∙ val_cast z f
+
+pub passed : (z : ℤ) (n : ℕ) → n < 4294967296 → z ≡ to_z w32 n → to_z w32 (of_z w32 z) ≡ val n
+passed z n h e = ap (λ (y : ℤ). to_z w32 (of_z w32 y)) e ∙ ap (to_z w32) (of_z-to_z {w = w32} (record { fits = h })) ∙ cast_32 n h

@@ -1,6 +1,6 @@
 -- The numbers that pass a test: how many below n, the nearest below n, the lowest from i up. Assumes nothing.
+use Rattle.std.specs.Prelude.{None, Option, Some}
 use Rattle.std.specs.Prelude.{Bool, true, false, ℕ, zero, suc, ◌+◌, if◌then◌else◌}
-use Rattle.std.proofs.Math.Option.{Option, some, none}
 
 -- 1 for true, 0 for false
 unfoldable pub bit : Bool → ℕ
@@ -14,10 +14,10 @@ tally p (suc n) = tally p n + bit (p n)
 
 -- the nearest number below n that passes the test
 unfoldable pub nearest : (ℕ → Bool) → ℕ → Option ℕ
-nearest p zero = none
-nearest p (suc n) = if p n then some n else nearest p n
+nearest p zero = None
+nearest p (suc n) = if p n then Some n else nearest p n
 
 -- the lowest of the n numbers from i up that passes the test
 unfoldable pub lowest : (ℕ → Bool) → ℕ → ℕ → Option ℕ
-lowest p i zero = none
-lowest p i (suc n) = if p i then some i else lowest p (suc i) n
+lowest p i zero = None
+lowest p i (suc n) = if p i then Some i else lowest p (suc i) n

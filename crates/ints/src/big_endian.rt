@@ -6,18 +6,13 @@ ghost use Rattle.ints.specs.BigEndian.{nat_at, with_nat};
 ghost use Rattle.ints.specs.Signed.{InBytes, int_at, with_int};
 ghost use Rattle.ints.specs.code.Signed.{val};
 
-use crate::limits::{HALF16, WHOLE16, WHOLE32};
-
 pub type Signed = u32;
-
-// - 2 ^ 15, as a number of 32 bits is held.
-const MINUS_HALF16: u64 = WHOLE32 - HALF16;
 
 // A byte, as a wide number.
 pub fn wide(x: u8) -> u32
     ensures { (result ≡ x) × (result < 256) }
 {
-    x as u32
+    u32::from(x)
 }
 
 // The unsigned number in the two bytes at `at`.
@@ -25,17 +20,15 @@ pub fn read_u16(s: &[u8], at: usize) -> u32
     requires { at + 2 ≤ length s.now }
     ensures { (result ≡ nat_at 2 s.now at) × (result < whole16) }
 {
-    wide(s[at]) * 256 + wide(s[at + 1])
+    u32::from(u16::from_be_bytes([s[at], s[at + 1]]))
 }
 
-// The signed number in the two bytes at `at`: 2 ^ 15 is added and taken off again. No test on the sign, so that the two
-// bytes stay one load.
+// The signed number in the two bytes at `at`.
 pub fn read_i16(s: &[u8], at: usize) -> Signed
     requires { at + 2 ≤ length s.now }
     ensures { (val result ≡ int_at 2 s.now at) × (nat_abs (val result) ≤ half16) }
 {
-    let n = (read_u16(s, at) as u64 + HALF16) % WHOLE16;
-    ((n + MINUS_HALF16) % WHOLE32) as u32
+    i32::from(i16::from_be_bytes([s[at], s[at + 1]])).cast_unsigned()
 }
 
 // The signed number in the four bytes at `at`.
@@ -43,16 +36,17 @@ pub fn read_i32(s: &[u8], at: usize) -> Signed
     requires { at + 4 ≤ length s.now }
     ensures { val result ≡ int_at 4 s.now at }
 {
-    wide(s[at]) * 16777216 + wide(s[at + 1]) * 65536 + wide(s[at + 2]) * 256 + wide(s[at + 3])
+    u32::from_be_bytes([s[at], s[at + 1], s[at + 2], s[at + 3]])
 }
 
-// Writes n to the two bytes at `at`.
+// Writes n to the two bytes at `at`: `copy_from_slice` of two bytes is three instructions longer than the two stores.
 pub fn write_u16(s: &mut [u8], at: usize, n: u32)
     requires { (at + 2 ≤ length s.old) × (n < whole16) }
     ensures { s.new ≡ with_nat 2 s.old at n }
 {
-    s[at] = (n / 256) as u8;
-    s[at + 1] = (n % 256) as u8;
+    let [high, low] = (n as u16).to_be_bytes();
+    s[at] = high;
+    s[at + 1] = low;
 }
 
 // Writes v, a number of 16 bits, to the two bytes at `at`.
@@ -68,8 +62,5 @@ pub fn write_i32(s: &mut [u8], at: usize, v: Signed)
     requires { at + 4 ≤ length s.old }
     ensures { s.new ≡ with_int 4 s.old at (val v) }
 {
-    s[at] = (v / 16777216) as u8;
-    s[at + 1] = (v / 65536 % 256) as u8;
-    s[at + 2] = (v / 256 % 256) as u8;
-    s[at + 3] = (v % 256) as u8;
+    s[at..at + 4].copy_from_slice(&v.to_be_bytes());
 }

@@ -4,4 +4,4 @@ use Rattle.ints.proofs.SaturatingLaws.{lifted}
 use Rattle.ints.proofs.saturating.lift.Goals as goal
 
 pub returns : goal.returns
-returns c = (lifted c.args.v (omega arith), omega arith)
+returns c = (cc (lifted c.args.v (omega arith)), omega arith)

@@ -1,7 +1,16 @@
--- The difference of lifted numbers, lowered. Assumes nothing.
+-- The library's difference. Assumes nothing.
+use mathlib.Core.Path.{◌∙◌}
 use native.Mathlib.Omega.{arith}
-use Rattle.ints.proofs.SaturatingLaws.{sub_lifted}
+use lib.IntN.{◌-ℤ◌}
+use Rattle.ints.specs.code.Signed.{val}
+use Rattle.ints.proofs.SaturatingLaws.{saturated}
+use Rattle.ints.proofs.SignedLaws.{passed, returned}
 use Rattle.ints.proofs.saturating.sat_sub.Goals as goal
 
 pub returns : goal.returns
-returns c = cc (sub_lifted c.lift.result c.lift-2.result (omega arith))
+returns c =
+    let a = passed c.cast_signed.result c.args.a (omega arith) c.cast_signed.ensures in
+    let b = passed c.cast_signed-2.result c.args.b (omega arith) c.cast_signed-2.ensures in
+    returned c.cast_unsigned.result c.saturating_sub.result (omega arith) c.cast_unsigned.ensures
+    ∙ c.saturating_sub.ensures
+    ∙ rw (a, b) (saturated (val c.args.a -ℤ val c.args.b))
