@@ -1,17 +1,18 @@
 -- Chains are numbers of 16 bits. Assumes nothing.
-use mathlib.Core.Path.{◌≡◌, refl, sym, ◌∙◌}
+use mathlib.Core.Path.{◌≡◌, sym, ◌∙◌}
 use mathlib.Core.Bool.{not}
-use Prim.Native.Nat.{ℕ, zero, suc, ◌+◌, ◌-◌, ◌%◌, ◌<◌, ◌≤◌}
+use Prim.Native.Nat.{ℕ, ◌+◌, ◌-◌, ◌%◌, ◌<◌, ◌≤◌}
 use native.Mathlib.Decide.{dec_lt}
 use native.Mathlib.Omega.{arith}
 use borrow.Author.Tests.{eq-eqb, ne_eqb}
 use lib.Dec.{eqb}
-use lib.IntN.{ℤ, pos, negsuc, nat_abs, ◌-ℤ◌}
+use lib.IntN.{pos, nat_abs, ◌-ℤ◌}
 use lib.Signed.{mag}
 use Rattle.ints.specs.Signed.{InBytes, signed}
 use Rattle.ints.specs.code.Signed.{val}
 use Rattle.ints.proofs.Ints.{by_sign, diff, sub_pos}
 use Rattle.ints.proofs.SignedLaws.{signed_high, signed_low, signed_same}
+use Rattle.ints.proofs.SizeLaws.{abs_zero}
 use Rattle.slots.specs.code.Fields.{swapped}
 
 -- 0 is one
@@ -45,14 +46,9 @@ pub attached : (n : ℕ) → n < 65536 → (n ≡ 0 → ⊥) → signed 2 (swapp
 unfolding signed
 attached n h ne e = ne (omega (arith, signed_same 2 (swapped n) 0 (omega arith) (omega arith) e))
 
-no_size : (z : ℤ) → nat_abs z ≡ 0 → z ≡ pos 0
-no_size (pos zero) e = refl
-no_size (pos (suc n)) e = absurd (omega arith)
-no_size (negsuc n) e = absurd (omega arith)
-
 pub attached_bytes : (n : ℕ) → n < 65536 → not (eqb n 0) ≡ not (eqb (nat_abs (signed 2 (swapped n))) 0)
 attached_bytes n h = go (dec_lt 0 n)
   where
     go : Dec (0 < n) → not (eqb n 0) ≡ not (eqb (nat_abs (signed 2 (swapped n))) 0)
-    go (yes lt) = rw (ne_eqb n 0 (λ e. omega arith), ne_eqb (nat_abs (signed 2 (swapped n))) 0 (λ e. attached n h (λ z. omega arith) (no_size (signed 2 (swapped n)) e)))
+    go (yes lt) = rw (ne_eqb n 0 (λ e. omega arith), ne_eqb (nat_abs (signed 2 (swapped n))) 0 (λ e. attached n h (λ z. omega arith) (abs_zero (signed 2 (swapped n)) e)))
     go (no ge) = let e : n ≡ 0 = omega arith in rw (eq-eqb n 0 e, unattached_chain n e)

@@ -1,7 +1,10 @@
 -- A write to a slot's bytes is a change of one field: one law for the four fields of one byte, one for the four measures. Assumes nothing.
 use mathlib.Core.Path.{◌≡◌, refl}
 use mathlib.Core.List.{List, []}
-use Prim.Native.Nat.{ℕ, ◌<◌, ◌≤◌}
+use mathlib.Core.Bool.{not}
+use Prim.Native.Nat.{ℕ, zero, suc, ◌*◌, ◌<◌, ◌≤◌}
+use borrow.Author.Tests.{eq-eqb, ne_eqb}
+use lib.Dec.{eqb}
 use native.Mathlib.Omega.{arith}
 use lib.IntN.{ℤ, pos}
 use lib.ListN.{length, get_or, set}
@@ -69,3 +72,9 @@ measure_chain Advance X c s = refl
 measure_chain Advance Y c s = refl
 measure_chain Offset X c s = refl
 measure_chain Offset Y c s = refl
+
+-- ---- a bit that is set, b of weight d
+pub bit_test : (m d b : ℕ) → 0 < d → b < 2 → m ≡ b * d → not (eqb m 0) ≡ eqb b 1
+bit_test m d zero h k e = rw (eq-eqb m 0 (omega arith))
+bit_test m d (suc zero) h k e = rw (ne_eqb m 0 (λ z. omega arith))
+bit_test m d (suc (suc b)) h k e = absurd (omega arith)

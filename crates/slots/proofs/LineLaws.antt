@@ -196,9 +196,6 @@ module _ (w : Shape) (l : List ℕ) (i : ℕ) (h : Inside w l i) where
   pub lent_size : length (lent w l i) ≡ w.size
   lent_size = rw whole (length_part w.size l i (slot_end w l i h))
 
-  pub lent_length_lem : slot_size ≤ length (lent w l i)
-  lent_length_lem = omega (arith, lent_size, h.fits.wide)
-
   -- they are slot i
   pub line_get : slot_of (lent w l i) ≡ slot (slots w l) i
   unfolding slots
@@ -214,6 +211,18 @@ module _ (w : Shape) (l : List ℕ) (i : ℕ) (h : Inside w l i) where
       → slots w (put_mid (i * w.size) (lent_length w.size i) l q) ≡ update i f (slots w l)
   unfolding update
   line_update f q lq sq = line_put q lq ∙ ap (λ (s : Slot). set (slots w l) i s) (sq ∙ ap f line_get)
+
+  -- the same from s to e, where code has them
+  module _ (s e : ℕ) (is : s ≡ i * w.size) (ie : e ≡ i * w.size + w.size) where
+    pub place_wide : slot_size ≤ length (mid_of s (e - s) l)
+    place_wide = rw (is, ie) (omega (arith, lent_size, h.fits.wide))
+
+    pub place_get : slot_of (mid_of s (e - s) l) ≡ slot (slots w l) i
+    place_get = rw (is, ie) line_get
+
+    pub place_update : (f : Slot → Slot) (q : List ℕ) → length q ≡ length (mid_of s (e - s) l) → slot_of q ≡ f (slot_of (mid_of s (e - s) l))
+        → slots w (put_mid s (e - s) l q) ≡ update i f (slots w l)
+    place_update f q = rw (is, ie) (line_update f q)
 
 -- ---- one slot changed
 -- a change that leaves the slot leaves the line
@@ -243,11 +252,6 @@ module _ (i : ℕ) (f : Slot → Slot) (ss : List Slot) where
   pub update_both : (g : Slot → Slot) {ss₁ ss₂ : List Slot} → i < length ss → ss₁ ≡ update i f ss → ss₂ ≡ update i g ss₁ → ss₂ ≡ update i (λ s. g (f s)) ss
   update_both g lt first second = second ∙ ap (update i g) first ∙ update_twice g lt
 
-  -- two changes that agree on the slot are the same
-  pub update_as : (g : Slot → Slot) → f (slot ss i) ≡ g (slot ss i) → update i f ss ≡ update i g ss
-  unfolding update
-  update_as g e = ap (set ss i) e
-
 -- ---- a part of whole slots
 drop_take : {A : Type 0} (j m : ℕ) (l : List A) → take m (drop j l) ≡ drop j (take (j + m) l)
 drop_take zero m l = let e : 0 + m ≡ m = omega arith in rw e
@@ -262,9 +266,6 @@ module _ (w : Shape) (l : List ℕ) (i j : ℕ) (f : Fits w l) (h : i ≤ j) (g 
 
   part_in : i * w.size + (j - i) * w.size ≤ length l
   part_in = omega (arith, part_size, mul-le-mul_right w.size h, mul-le-mul_right w.size g, f.whole)
-
-  pub part_ends : (i * w.size ≤ j * w.size) × (j * w.size ≤ length l)
-  part_ends = (mul-le-mul_right w.size h, omega (arith, mul-le-mul_right w.size g, f.whole))
 
   pub part_fits : Fits (part_shape w (j - i)) (mid_of (i * w.size) (j * w.size - i * w.size) l)
   part_fits =

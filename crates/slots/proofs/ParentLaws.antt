@@ -11,6 +11,9 @@ use Rattle.ints.specs.Signed.{signed}
 use Rattle.ints.specs.code.Signed.{val}
 use Rattle.ints.proofs.Ints.{bal, bal_add, by_sign, diff, eq_diff, eq_in, pos_add_diff, pos_diff, same, sub_pos}
 use Rattle.ints.proofs.TestLaws.{clash}
+use Rattle.ints.specs.Signed.{signed}
+use Rattle.slots.specs.code.Fields.{swapped}
+use Rattle.slots.proofs.ChainLaws.{attached as hangs}
 use Rattle.slots.specs.Slot.{Slot, no_slot}
 use Rattle.slots.specs.Line.{slot, update}
 use Rattle.slots.specs.Fields.{with_chain}
@@ -146,3 +149,24 @@ module _ (h n i c : ℕ) (z : ℤ) (is : z ≡ pos c -ℤ pos h) where
     parent_in le k =
         attached_at n i z ne ∙ ap (placed n) sum
         ∙ by_sign (λ w. placed n w ≡ InLine (i + c - h)) (i + c) h (λ l. rw (lt-ltb (i + c - h) n k)) (λ l. absurd (omega arith))
+
+-- by the chain's bytes, and the chain 2 ^ 15 higher, in a line of n slots
+module _ (l : List Slot) (i n chain high : ℕ) (count : length l ≡ n) (is : signed 2 (swapped chain) ≡ (slot l i).chain)
+    (raised : signed 2 (swapped chain) ≡ pos high -ℤ pos 32768) (fits : chain < 65536) (ne : chain ≡ 0 → ⊥) where
+  pub found_in : (j : ℕ) → 32768 ≤ i + high → j ≡ i + high - 32768 → j < n → InLine j ≡ parent l i
+  unfolding parent
+  found_in j h e k =
+      rw e (sym (ap (parent_by (length l) i) (sym is)
+      ∙ parent_in 32768 (length l) i high (signed 2 (swapped chain)) raised (hangs chain fits ne) h (omega arith)))
+
+  pub found_past : (j : ℕ) → 32768 ≤ i + high → j ≡ i + high - 32768 → n ≤ j → Outside ≡ parent l i
+  unfolding parent
+  found_past j h e k =
+      sym (ap (parent_by (length l) i) (sym is)
+      ∙ parent_above 32768 (length l) i high (signed 2 (swapped chain)) raised (hangs chain fits ne) h (omega arith))
+
+  pub found_before : i + high < 32768 → Outside ≡ parent l i
+  unfolding parent
+  found_before h =
+      sym (ap (parent_by (length l) i) (sym is)
+      ∙ parent_below 32768 (length l) i high (signed 2 (swapped chain)) raised (hangs chain fits ne) h)

@@ -27,10 +27,6 @@ by_size P small large z k = go (eqb z slot_size) (eqb z clustered_size) refl ref
     go false true e f = subst P (sym (eqb-true z clustered_size f)) large
     go false false e f = let no_size : ◌≡◌ {A = Bool} false true = rw (e, f) at k in clash (cc)
 
--- the one that is not 24
-pub other_size : (z : ℕ) → known z ≡ true → (z ≡ slot_size → ⊥) → z ≡ clustered_size
-other_size = by_size (λ z. (z ≡ slot_size → ⊥) → z ≡ clustered_size) (λ h. absurd (h refl)) (λ h. refl)
-
 pub size_wide : (z : ℕ) → known z ≡ true → slot_size ≤ z
 size_wide = by_size (λ z. slot_size ≤ z) (omega arith) (omega arith)
 

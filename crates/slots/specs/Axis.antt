@@ -2,7 +2,9 @@
 use Rattle.std.specs.Prelude.{Bool, true, false, ℕ, eqb, if◌then◌else◌}
 use Rattle.slots.specs.declared.axis.Axis.{Axis}
 use Rattle.slots.specs.declared.axis.Axis.TheVariants.{X, Y}
+use Rattle.std.specs.Prelude.{◌≡◌, ◌<◌, Result, MatchResult}
 use Rattle.slots.specs.declared.axis.Direction.{Direction}
+use Rattle.slots.specs.declared.axis.UnknownDirection.{UnknownDirection}
 use Rattle.slots.specs.declared.axis.Direction.TheVariants.{LeftToRight, RightToLeft, TopToBottom, BottomToTop}
 
 -- the directions 0, 1, 2, 3
@@ -12,6 +14,10 @@ direction_of n =
     else (if eqb n 1 then RightToLeft
     else (if eqb n 2 then TopToBottom
     else BottomToTop))
+
+-- code's direction of a number, which only 0 to 3 have
+abbrev pub Numbered : ℕ → Result Direction UnknownDirection → Type 0
+Numbered n r = MatchResult r (λ d. (n < 4) × (d ≡ direction_of n)) (λ _. 3 < n)
 
 -- 0 and 1 are horizontal
 abbrev pub horizontal : Direction → Bool

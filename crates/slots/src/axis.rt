@@ -1,14 +1,25 @@
 // The two axes and the four directions.
 ghost use Rattle.std.specs.Prelude.{◌≡◌};
-ghost use Rattle.slots.specs.Axis.{cross, direction_of, forward, main, other};
+ghost use Rattle.slots.specs.Axis.{cross, forward, main, Numbered, other};
 
-#[derive(Clone, Copy)]
+#[derive(Clone, Copy, PartialEq, Eq)]
 pub enum Axis {
     X,
     Y,
 }
 
-#[derive(Clone, Copy)]
+impl Axis {
+    pub fn other(self) -> Axis
+        ensures { result ≡ other self }
+    {
+        match self {
+            Axis::X => Axis::Y,
+            Axis::Y => Axis::X,
+        }
+    }
+}
+
+#[derive(Clone, Copy, PartialEq, Eq)]
 pub enum Direction {
     LeftToRight,
     RightToLeft,
@@ -16,57 +27,47 @@ pub enum Direction {
     BottomToTop,
 }
 
-// The direction of a number up to 3.
-pub fn direction_of(n: u32) -> Direction
-    ensures { result ≡ direction_of n }
-{
-    if n == 0 {
-        return Direction::LeftToRight;
-    }
-    if n == 1 {
-        return Direction::RightToLeft;
-    }
-    if n == 2 {
-        return Direction::TopToBottom;
-    }
-    Direction::BottomToTop
-}
+// No direction has the number.
+#[derive(Clone, Copy, PartialEq, Eq)]
+pub struct UnknownDirection;
 
-pub fn is_forward(d: Direction) -> bool
-    ensures { result ≡ forward d }
-{
-    match d {
-        Direction::LeftToRight => true,
-        Direction::RightToLeft => false,
-        Direction::TopToBottom => true,
-        Direction::BottomToTop => false,
+impl TryFrom<u32> for Direction {
+    type Error = UnknownDirection;
+
+    ghost try_from_gives = { Numbered };
+
+    fn try_from(n: u32) -> Result<Self, UnknownDirection> {
+        match n {
+            0 => Ok(Direction::LeftToRight),
+            1 => Ok(Direction::RightToLeft),
+            2 => Ok(Direction::TopToBottom),
+            3 => Ok(Direction::BottomToTop),
+            _ => Err(UnknownDirection),
+        }
     }
 }
 
-// The axis along the line.
-pub fn main_axis(d: Direction) -> Axis
-    ensures { result ≡ main d }
-{
-    match d {
-        Direction::LeftToRight => Axis::X,
-        Direction::RightToLeft => Axis::X,
-        Direction::TopToBottom => Axis::Y,
-        Direction::BottomToTop => Axis::Y,
+impl Direction {
+    pub fn is_forward(self) -> bool
+        ensures { result ≡ forward self }
+    {
+        matches!(self, Direction::LeftToRight | Direction::TopToBottom)
     }
-}
 
-pub fn other_axis(a: Axis) -> Axis
-    ensures { result ≡ other a }
-{
-    match a {
-        Axis::X => Axis::Y,
-        Axis::Y => Axis::X,
+    // The axis along the line.
+    pub fn main_axis(self) -> Axis
+        ensures { result ≡ main self }
+    {
+        match self {
+            Direction::LeftToRight | Direction::RightToLeft => Axis::X,
+            Direction::TopToBottom | Direction::BottomToTop => Axis::Y,
+        }
     }
-}
 
-// The axis across the line.
-pub fn cross_axis(d: Direction) -> Axis
-    ensures { result ≡ cross d }
-{
-    other_axis(main_axis(d))
+    // The axis across the line.
+    pub fn cross_axis(self) -> Axis
+        ensures { result ≡ cross self }
+    {
+        self.main_axis().other()
+    }
 }

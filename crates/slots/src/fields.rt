@@ -1,8 +1,9 @@
 // A slot's fields, read from and written to a line by the slot's number.
 ghost use Rattle.std.specs.Prelude.{◌≡◌, ◌+◌, ◌-◌, ◌≤◌, ◌<◌, nat_abs, length};
 ghost use Rattle.std.proofs.Math.Seq.{slice};
+ghost use Rattle.std.specs.Prelude.{◌*◌};
 ghost use Rattle.ints.specs.BigEndian.{nat_at};
-ghost use Rattle.ints.specs.Limits.{half16, whole16};
+ghost use Rattle.ints.specs.Limits.{half16, whole16, whole64};
 ghost use Rattle.ints.specs.Signed.{InBytes, signed};
 ghost use Rattle.ints.specs.code.Signed.{val};
 ghost use Rattle.slots.specs.Slot.{chain_at, slot_of, slot_size};
@@ -19,9 +20,8 @@ use crate::layout::{
     Y_ADVANCE, Y_OFFSET,
 };
 use crate::shape::Shape;
-use ints::big_endian::{
-    Signed, read_i16, read_i32, read_u16, wide, write_i16, write_i32, write_u16,
-};
+use ints::big_endian::{Signed, read_i16, read_i32, read_u16, write_i16, write_i32, write_u16};
+use std::ops::Range;
 
 // The fields of one byte.
 #[derive(Clone, Copy)]
@@ -52,10 +52,7 @@ pub fn slots_between<'a>(line: &'a [u8], shape: Shape, i: usize, j: usize) -> &'
     ensures { (slots (part_shape shape (j - i)) result.now ≡ slice i j (slots shape line.now))
         × Fits (part_shape shape (j - i)) result.now }
 {
-    let size = shape.size;
-    let a = i * size;
-    let b = j * size;
-    &line[a..b]
+    &line[i * shape.size..j * shape.size]
 }
 
 pub fn glyph(line: &[u8], shape: Shape, i: usize) -> u32
@@ -69,29 +66,21 @@ pub fn set_glyph(line: &mut [u8], shape: Shape, i: usize, n: u32)
     requires { Inside shape line.old i × (n < whole16) }
     ensures { slots shape line.new ≡ update i (with_glyph n) (slots shape line.old) }
 {
-    let size = shape.size;
-    let a = i * size;
-    let b = a + size;
-    write_u16(&mut line[a..b], GLYPH, n);
+    write_u16(&mut line[place_of(shape, i)], GLYPH, n);
 }
 
 pub fn get_byte(line: &[u8], shape: Shape, i: usize, f: ByteField) -> u8
     requires { Inside shape line.now i }
     ensures { result ≡ byte_of f (slot (slots shape line.now) i) }
 {
-    let s = slot_at(line, shape, i);
-    let at = byte_at(f);
-    s[at]
+    slot_at(line, shape, i)[byte_at(f)]
 }
 
 pub fn set_byte(line: &mut [u8], shape: Shape, i: usize, f: ByteField, n: u8)
     requires { Inside shape line.old i }
     ensures { slots shape line.new ≡ update i (with_byte f n) (slots shape line.old) }
 {
-    let size = shape.size;
-    let a = i * size;
-    let b = a + size;
-    put_byte(&mut line[a..b], f, n);
+    put_byte(&mut line[place_of(shape, i)], f, n);
 }
 
 // Is the flag of slot i set?
@@ -101,9 +90,9 @@ pub fn has_flag(line: &[u8], shape: Shape, i: usize, f: Flag) -> bool
 {
     let flags = get_byte(line, shape, i, ByteField::Flags);
     match f {
-        Flag::Seen => flags % 2 == 1,
-        Flag::Mark => flags / 2 % 2 == 1,
-        Flag::Multiplied => flags / 4 % 2 == 1,
+        Flag::Seen => flags & 1 != 0,
+        Flag::Mark => flags & 2 != 0,
+        Flag::Multiplied => flags & 4 != 0,
     }
 }
 
@@ -111,7 +100,7 @@ pub fn has_flag(line: &[u8], shape: Shape, i: usize, f: Flag) -> bool
 pub fn cursive_bit(kind: u8) -> bool
     ensures { result ≡ cursive_bit kind }
 {
-    kind / 2 % 2 == 1
+    kind & 2 != 0
 }
 
 pub fn chain(line: &[u8], shape: Shape, i: usize) -> Signed
@@ -141,10 +130,7 @@ pub fn set_chain(line: &mut [u8], shape: Shape, i: usize, v: Signed)
     requires { Inside shape line.old i × InBytes 2 (val v) }
     ensures { slots shape line.new ≡ update i (with_chain (val v)) (slots shape line.old) }
 {
-    let size = shape.size;
-    let a = i * size;
-    let b = a + size;
-    write_i16(&mut line[a..b], CHAIN, v);
+    write_i16(&mut line[place_of(shape, i)], CHAIN, v);
 }
 
 // The advance or the offset of slot i on an axis.
@@ -160,11 +146,7 @@ pub fn set(line: &mut [u8], shape: Shape, i: usize, m: Measure, a: Axis, v: Sign
     ensures { slots shape line.new ≡ update i (with_measure m a (val v))
         (slots shape line.old) }
 {
-    let at = measure_at(m, a);
-    let size = shape.size;
-    let from = i * size;
-    let to = from + size;
-    write_i32(&mut line[from..to], at, v);
+    write_i32(&mut line[place_of(shape, i)], measure_at(m, a), v);
 }
 
 // The bytes of slot i.
@@ -172,18 +154,23 @@ fn slot_at<'a>(line: &'a [u8], shape: Shape, i: usize) -> &'a [u8]
     requires { Inside shape line.now i }
     ensures { (slot_of result.now ≡ slot (slots shape line.now) i) × (slot_size ≤ length result.now) }
 {
-    let size = shape.size;
-    let a = i * size;
-    let b = a + size;
-    &line[a..b]
+    &line[place_of(shape, i)]
+}
+
+// Where in the line the bytes of slot i are.
+// A function that lent these bytes as a `&mut` got no proof: `Lends` is proved of a field or an element, not of a part.
+fn place_of(shape: Shape, i: usize) -> Range<usize>
+    requires { i * shape.size + shape.size < whole64 }
+    ensures { (result.start ≡ i * shape.size) × (result.end ≡ i * shape.size + shape.size) }
+{
+    i * shape.size..i * shape.size + shape.size
 }
 
 fn put_byte(slot: &mut [u8], f: ByteField, n: u8)
     requires { slot_size ≤ length slot.old }
     ensures { slot_of slot.new ≡ with_byte f n (slot_of slot.old) }
 {
-    let at = byte_at(f);
-    slot[at] = n;
+    slot[byte_at(f)] = n;
 }
 
 // The two bytes of a slot's chain as one number, the first lowest: the order in which they are one load.
@@ -191,7 +178,7 @@ fn low_first(slot: &[u8]) -> u32
     requires { slot_size ≤ length slot.now }
     ensures { (swapped result ≡ nat_at 2 slot.now chain_at) × (result < whole16) }
 {
-    wide(slot[CHAIN]) + wide(slot[CHAIN_LOW]) * 256
+    u32::from(u16::from_le_bytes([slot[CHAIN], slot[CHAIN_LOW]]))
 }
 
 // Where in a slot a field of one byte is.
@@ -210,14 +197,10 @@ fn byte_at(f: ByteField) -> usize
 fn measure_at(m: Measure, a: Axis) -> usize
     ensures { (result ≡ measure_at m a) × (result + 4 ≤ slot_size) }
 {
-    match m {
-        Measure::Advance => match a {
-            Axis::X => X_ADVANCE,
-            Axis::Y => Y_ADVANCE,
-        },
-        Measure::Offset => match a {
-            Axis::X => X_OFFSET,
-            Axis::Y => Y_OFFSET,
-        },
+    match (m, a) {
+        (Measure::Advance, Axis::X) => X_ADVANCE,
+        (Measure::Advance, Axis::Y) => Y_ADVANCE,
+        (Measure::Offset, Axis::X) => X_OFFSET,
+        (Measure::Offset, Axis::Y) => Y_OFFSET,
     }
 }

@@ -29,7 +29,8 @@ pub const SLOT_SIZE: usize = 24;
 
 pub const CLUSTERED_SIZE: usize = 28;
 
-// The attach types: how a slot hangs on its parent.
+// The attach types: how a slot hangs on its parent. Bytes and no enum, since a line of the caller's may have any other,
+// which is kept.
 pub const MARK_TYPE: u8 = 1;
 
 pub const CURSIVE_TYPE: u8 = 2;

@@ -4,6 +4,7 @@
 #![tactic(auto)]
 
 pub mod axis; // x and y, the four directions
+pub mod frame; // the direction and the scale of a line
 pub mod layout; // where each field stands in a slot's bytes
 pub mod shape; // how a line is cut into slots, refusal 1
 pub mod fields; // reading and writing a slot's fields

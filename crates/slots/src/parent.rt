@@ -21,9 +21,7 @@ pub enum Parent {
 }
 
 // A chain is read this much higher, so that it is never below 0: 2 ^ 15.
-const RAISE: u32 = 32768;
-
-const RAISED: usize = 32768;
+const RAISE: usize = 32768;
 
 // What slot i hangs on: nothing, something outside the line, or a slot of the line.
 pub fn parent_of(line: &[u8], shape: Shape, i: usize) -> Parent
@@ -34,16 +32,10 @@ pub fn parent_of(line: &[u8], shape: Shape, i: usize) -> Parent
     if chain == 0 {
         return Parent::None;
     }
-    let higher = i + raised(chain);
-    if higher < RAISED {
-        return Parent::Outside;
+    match (i + raised(chain)).checked_sub(RAISE) {
+        Some(j) if j < shape.count => Parent::InLine(j),
+        _ => Parent::Outside,
     }
-    let j = higher - RAISED;
-    let n = shape.count;
-    if n <= j {
-        return Parent::Outside;
-    }
-    Parent::InLine(j)
 }
 
 // A chain, given by its bytes, 2 ^ 15 higher: so it is never below 0.
@@ -51,5 +43,6 @@ fn raised(bytes: u32) -> usize
     requires { bytes < whole16 }
     ensures { (signed 2 (swapped bytes) ≡ pos result -ℤ pos half16) × (result < whole16) }
 {
-    ((bytes % 256 * 256 + bytes / 256 + RAISE) % 65536) as usize
+    let chain = (bytes as u16).swap_bytes();
+    usize::from(chain.wrapping_add(RAISE as u16))
 }

@@ -1,11 +1,9 @@
 -- Lines in code: bytes that have a shape, and slots inside them. Assumes nothing.
-use Rattle.std.specs.Prelude.{List, ◌≡◌, ℕ, ◌+◌, ◌*◌, ◌<◌, ◌≤◌, length, if◌then◌else◌}
-use Rattle.ints.specs.Limits.{whole64}
+use Rattle.std.specs.Prelude.{None, Option, Some}
+use Rattle.std.specs.Prelude.{List, ◌≡◌, ℕ, ◌*◌, ◌<◌, ◌≤◌, length, if◌then◌else◌}
 use Rattle.slots.specs.Checks.{bad_line}
 use Rattle.slots.specs.Line.{count, shape_with}
 use Rattle.slots.specs.Slot.{slot_size}
-use Rattle.slots.specs.declared.shape.Cut.{Cut}
-use Rattle.slots.specs.declared.shape.Cut.TheVariants.{Slots, Bad}
 use Rattle.slots.specs.declared.shape.Shape.{Shape}
 
 -- the shape of a part of n slots
@@ -25,9 +23,5 @@ pub record Inside (w : Shape) (l : List ℕ) (i : ℕ) : Type 0 where
   pub below : i < w.count
 
 -- how a line is cut into slots of z bytes: how many there are
-abbrev pub cut_of : ℕ → List ℕ → Cut
-cut_of z l = if bad_line z l then Bad else Slots (count z l)
-
--- the index after this one is a number of 64 bits too, as it is for every slot of a line
-abbrev pub HasNext : ℕ → Type 0
-HasNext i = i + 1 < whole64
+abbrev pub cut_of : ℕ → List ℕ → Option ℕ
+cut_of z l = if bad_line z l then None else Some (count z l)

@@ -9,5 +9,5 @@ use Rattle.slots.proofs.fields.get_byte.Goals as goal
 pub returns : goal.returns
 returns c =
     let a = c.args in
-    let s = c.slot_at-s in
-    ap (λ (n : ℕ). get_or s.result.now n 0) c.byte_at-at.ensures.0 ∙ byte_get a.f s.result.now ∙ ap (byte_of a.f) s.ensures.0
+    let s = c.slot_at in
+    ap (λ (n : ℕ). get_or s.result.now n 0) c.byte_at.ensures.0 ∙ byte_get a.f s.result.now ∙ ap (byte_of a.f) s.ensures.0

@@ -4,8 +4,4 @@ use Rattle.ints.proofs.BigEndianLaws.{nat_at_2}
 use Rattle.slots.proofs.fields.low_first.Goals as goal
 
 pub returns : goal.returns
-returns c =
-    let a = c.args in
-    let first = c.wide in
-    let second = c.wide-2 in
-    (omega (arith, nat_at_2 a.slot.now 6, first.ensures.0, second.ensures.0, first.ensures.1, second.ensures.1), omega (arith, first.ensures.1, second.ensures.1))
+returns c = let high = (c.type_inv.slot 6).fits in let low = (c.type_inv.slot 7).fits in omega (arith, nat_at_2 c.args.slot.now 6)

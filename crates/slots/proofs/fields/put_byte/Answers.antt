@@ -9,4 +9,4 @@ use Rattle.slots.proofs.fields.put_byte.Goals as goal
 pub returns : goal.returns
 returns c =
     let a = c.args in
-    ap (λ (k : ℕ). slot_of (set a.slot.now k a.n)) c.byte_at-at.ensures.0 ∙ byte_put a.f a.n a.slot.now c.requires
+    ap (λ (k : ℕ). slot_of (set a.slot.now k a.n)) c.byte_at.ensures.0 ∙ byte_put a.f a.n a.slot.now c.requires

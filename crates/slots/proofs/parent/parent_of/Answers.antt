@@ -1,50 +1,38 @@
 -- Slot number plus chain, computed 2 ^ 15 higher: below that it is before the line, from the count up it is past it. Assumes nothing.
-use mathlib.Core.Path.{sym, ap, ◌∙◌}
+use mathlib.Core.Path.{sym, ◌∙◌}
 use native.Mathlib.Omega.{arith}
-use lib.ListN.{length}
-use Rattle.ints.specs.Signed.{signed}
-use Rattle.slots.specs.code.Fields.{swapped}
 use Rattle.slots.specs.Line.{slots}
-use Rattle.slots.specs.Parent.{parent, parent_by}
-use Rattle.slots.proofs.ChainLaws.{attached, unattached_chain}
+use Rattle.slots.proofs.ChainLaws.{unattached_chain}
 use Rattle.slots.proofs.LineLaws.{length_slots}
-use Rattle.slots.proofs.ParentLaws.{parent_above, parent_below, parent_in}
+use Rattle.slots.proofs.ParentLaws.{found_before, found_in, found_past, parent_none}
 use Rattle.slots.proofs.parent.parent_of.Goals as goal
 
 pub returns-then-chain-eq0 : goal.returns-then-chain-eq0
-unfolding parent
 returns-then-chain-eq0 c =
     let a = c.args in
-    let ss = slots a.shape a.line.now in
-    let z = sym c.chain_bytes-chain.ensures.0 ∙ unattached_chain c.chain_bytes-chain.result c.if-chain-eq0.true in
-    sym (ap (parent_by (length ss) a.i) z)
-
-pub returns-then-higher-lt-RAISED : goal.returns-then-higher-lt-RAISED
-unfolding parent
-returns-then-higher-lt-RAISED c =
-    let a = c.args in
-    let ss = slots a.shape a.line.now in
     let chain = c.chain_bytes-chain in
-    let high = c.raised in
-    sym (ap (parent_by (length ss) a.i) (sym chain.ensures.0)
-    ∙ parent_below 32768 (length ss) a.i high.result (signed 2 (swapped chain.result)) high.ensures.0 (attached chain.result chain.ensures.1 c.if-chain-eq0.false) (omega arith))
+    sym (parent_none (slots a.shape a.line.now) a.i (sym chain.ensures.0 ∙ unattached_chain chain.result c.if-chain-eq0.true))
 
-pub returns-then-n-j : goal.returns-then-n-j
-unfolding parent
-returns-then-n-j c =
+pub returns-in-Some : goal.returns-in-Some
+returns-in-Some c =
     let a = c.args in
-    let ss = slots a.shape a.line.now in
     let chain = c.chain_bytes-chain in
-    let high = c.raised in
-    sym (ap (parent_by (length ss) a.i) (sym chain.ensures.0)
-    ∙ parent_above 32768 (length ss) a.i high.result (signed 2 (swapped chain.result)) high.ensures.0 (attached chain.result chain.ensures.1 c.if-chain-eq0.false) (omega arith) (omega (arith, length_slots a.shape a.line.now)))
+    let found = c.in-Some.ensures in
+    found_in (slots a.shape a.line.now) a.i a.shape.count chain.result c.raised.result (length_slots a.shape a.line.now) chain.ensures.0 c.raised.ensures.0 chain.ensures.1 c.if-chain-eq0.false
+    c.in-Some.j found.0 found.1 c.if-j-shape.true
 
-pub returns : goal.returns
-unfolding parent
-returns c =
+pub returns-in_default : goal.returns-in_default
+returns-in_default c =
     let a = c.args in
-    let ss = slots a.shape a.line.now in
     let chain = c.chain_bytes-chain in
-    let high = c.raised in
-    sym (ap (parent_by (length ss) a.i) (sym chain.ensures.0)
-    ∙ parent_in 32768 (length ss) a.i high.result (signed 2 (swapped chain.result)) high.ensures.0 (attached chain.result chain.ensures.1 c.if-chain-eq0.false) (omega arith) (omega (arith, length_slots a.shape a.line.now)))
+    let found = c.in-Some.ensures in
+    found_past (slots a.shape a.line.now) a.i a.shape.count chain.result c.raised.result (length_slots a.shape a.line.now) chain.ensures.0 c.raised.ensures.0 chain.ensures.1 c.if-chain-eq0.false
+    c.in-Some.j found.0 found.1 c.if-j-shape.false
+
+pub returns-in_default-2 : goal.returns-in_default-2
+returns-in_default-2 c =
+    let a = c.args in
+    let chain = c.chain_bytes-chain in
+    let none = c.in_default.ensures in
+    found_before (slots a.shape a.line.now) a.i a.shape.count chain.result c.raised.result (length_slots a.shape a.line.now) chain.ensures.0 c.raised.ensures.0 chain.ensures.1 c.if-chain-eq0.false
+    (omega (arith, none))
