@@ -15,27 +15,22 @@ pub fn start_line(line: &mut [u8], shape: Shape)
     requires { Fits shape line.old × (known shape.size ≡ true) }
     ensures { slots shape line.new ≡ started (slots shape line.old) }
 {
-    let n = shape.count;
-    let size = shape.size;
-    if size == SLOT_SIZE {
-        clear_all(line, SLOT_SIZE, n);
-        return;
+    if shape.size == SLOT_SIZE {
+        clear_all::<SLOT_SIZE>(line, shape.count);
+    } else {
+        clear_all::<CLUSTERED_SIZE>(line, shape.count);
     }
-    clear_all(line, CLUSTERED_SIZE, n);
 }
 
-// Each slot's bytes are lent on, as a part of the line.
-fn clear_all(line: &mut [u8], size: usize, n: usize)
-    requires { Fits (shape_with size n) line.old }
-    ensures { slots (shape_with size n) line.new
-        ≡ started (slots (shape_with size n) line.old) }
+// Each slot's bytes are lent on by their place: of `chunks_exact_mut` no contract says what the line ends as.
+fn clear_all<const SIZE: usize>(line: &mut [u8], n: usize)
+    requires { Fits (shape_with SIZE n) line.old }
+    ensures { slots (shape_with SIZE n) line.new
+        ≡ started (slots (shape_with SIZE n) line.old) }
 {
-    let mut i = 0;
-    while i < n {
-        let a = i * size;
-        let b = a + size;
-        clear(&mut line[a..b]);
-        i += 1;
+    for i in 0..n {
+        let a = i * SIZE;
+        clear(&mut line[a..a + SIZE]);
     }
 }
 
