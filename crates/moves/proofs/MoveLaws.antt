@@ -1,29 +1,31 @@
 -- Moving a line to slots with a cluster, and back: a slot copied, a turn of the loop, and that there and back is the line. Assumes nothing.
 use mathlib.Core.Path.{◌≡◌, refl, sym, ap, ap₂, ◌∙◌}
-use mathlib.Core.Bool.{true, false}
+use mathlib.Core.Bool.{Bool, true}
 use mathlib.Core.List.{List, [], ◌∷◌, ◌++◌, map}
 use Prim.Native.Nat.{ℕ, zero, suc, ◌+◌, ◌*◌, ◌<◌, ◌≤◌}
 use native.Mathlib.Nat.{add-zero, zero-add}
 use native.Mathlib.Omega.{arith}
 use native.Mathlib.Numerals.{add-one}
-use borrow.Author.Tests.{eq-eqb, eqb-true, ne_eqb}
+use borrow.Author.Tests.{eq-eqb, eqb-true}
 use borrow.Rule.Slice.PartMut.{put_mid}
 use lib.Dec.{eqb}
-use lib.IntN.{ℤ}
-use lib.ListN.{length, take, drop, drop_of_length-le, length-append, length-drop}
-use lib.Seq.{drop_at, drop-cons, drop-drop, length-take-le, sets, sets-eq, take-add, take_all, take_at, take-suc, take-suc-set}
-use Rattle.ints.specs.BigEndian.{AllBytes, digits, nat_at, with_nat}
-use Rattle.ints.specs.Signed.{int_at, pattern, with_int}
+use lib.ListN.{length, get_or, take, drop}
+use lib.Seq.{take_all, take-suc, take-suc-set}
+use Rattle.ints.specs.BigEndian.{digits, nat_at, with_nat}
+use Rattle.ints.specs.Signed.{int_at, with_int}
 use Rattle.ints.specs.code.Signed.{val}
-use Rattle.ints.proofs.BigEndianLaws.{bytes_drop, bytes_take, nat_at_fits, nat_at_with_nat}
-use Rattle.ints.proofs.SignedLaws.{digits_int_at, pattern_signed, signed_same}
+use Rattle.ints.proofs.BigEndianLaws.{nat_at_with_nat}
+use Rattle.ints.proofs.SignedLaws.{pattern_signed}
 use Rattle.ints.proofs.TestLaws.{and_left, and_right}
 use Rattle.slots.specs.Slot.{Slot, bytes_of, clustered_size, no_slot, plain_bytes, slot_of, slot_size}
-use Rattle.slots.specs.Line.{bytes, slot, slots}
+use Rattle.slots.specs.Line.{bytes, shape_with, slot, slots, slots_n}
 use Rattle.slots.specs.code.Shape.{Inside}
 use Rattle.slots.specs.Fields.{with_cluster}
 use Rattle.slots.specs.Numbered.{is_numbered_from, numbered_from}
 use Rattle.slots.specs.declared.shape.Shape.{Shape}
+use Rattle.std.specs.Bool.{Decides}
+use Rattle.std.specs.Simd.{first_chunks}
+use Rattle.std.proofs.lemmas.Bool.Decides.{same_from_decides}
 use Rattle.slots.proofs.Cells.{by_cells, cells}
 use Rattle.slots.proofs.LineLaws.{lent, lent_length, length_slots, line_get, line_put}
 
@@ -31,22 +33,6 @@ use Rattle.slots.proofs.LineLaws.{lent, lent_length, length_slots, line_get, lin
 -- the first k numbers of p, and then those of t
 abbrev pub copied : ℕ → List ℕ → List ℕ → List ℕ
 copied k p t = take k p ++ drop k t
-
--- w bytes more: a number that was read there in p, and written
-pub copy_more : (w k : ℕ) (p t : List ℕ) (z : ℤ) → AllBytes p → k + w ≤ length p → k + w ≤ length t → z ≡ int_at w p k
-    → with_int w (copied k p t) k z ≡ copied (k + w) p t
-unfolding with_int with_nat
-copy_more w k p t z b hp ht e =
-    let l : List ℕ = copied k p t in
-    let v : List ℕ = take w (drop k p) in
-    let written : digits w (pattern w z) ≡ v = ap (λ (y : ℤ). digits w (pattern w y)) e ∙ digits_int_at w p k b hp in
-    let lv : length v ≡ w = length-take-le w (drop k p) (simp length-drop (omega arith)) in
-    let lk : length (take k p) ≡ k = length-take-le k p (omega arith) in
-    let kept : drop (k + w) l ≡ drop (k + w) t = sym (drop-drop w k l) ∙ ap (drop w) (drop_at (take k p) (drop k t) k lk) ∙ drop-drop w k t in
-    let room : length l ≡ length t = length-append (take k p) (drop k t) ∙ (simp length-drop (omega arith)) in
-    ap (sets l k) written
-    ∙ sets-eq v l k (omega arith)
-    ∙ rw (lv, kept, take_at (take k p) (drop k t) k lk, ← (take-add k w p))
 
 -- all 24: the slot of p, with the cluster of t
 pub copied_slot : (p : List ℕ) → slot_size ≤ length p → (t : List ℕ) → slot_size ≤ length t
@@ -98,33 +84,39 @@ numbered_from_lem k (suc i) (s ∷ ss) h =
 pub numbered_at : (i : ℕ) (ss : List Slot) → i < length ss → slot (numbered_from 0 ss) i ≡ with_cluster i (slot ss i)
 numbered_at i ss h = numbered_from_lem 0 i ss h ∙ ap (λ (n : ℕ). with_cluster n (slot ss i)) (zero-add i)
 
--- ---- a search for a slot whose cluster is not its number, none of them before slot i: code reads n at 24 in the lent bytes of slot i
-module _ (w : Shape) (l : List ℕ) (i : ℕ) (h : Inside w l i) (b : AllBytes l) (n : ℕ) (lt : n < 4294967296) (e : val n ≡ int_at 4 (lent w l i) slot_size) where
-  -- n is its cluster
-  cluster_get : (slot (slots w l) i).cluster ≡ n
-  unfolding slot_of int_at
-  cluster_get =
-      let q : List ℕ = lent w l i in
-      let bytes-in : AllBytes q = bytes_take (lent_length w.size i) (drop (i * w.size) l) (bytes_drop (i * w.size) l b) in
-      sym (signed_same 4 n (nat_at 4 q slot_size) lt (nat_at_fits 4 q slot_size bytes-in) e ∙ ap (λ (s : Slot). s.cluster) (line_get w l i h))
+-- ---- slots whose clusters are looked at one by one, each in its bytes: qs are the bytes of the n slots
+-- each cluster is its slot's number, from k up
+numbered_each : (z k n : ℕ) (l : List ℕ) → is_numbered_from k (slots_n z n l) ≡ true
+    → (i : ℕ) → i < n → (slot_of (get_or (first_chunks z n l) i [])).cluster ≡ k + i
+unfolding is_numbered_from slots_n
+numbered_each z k zero l e i h = absurd (omega arith)
+numbered_each z k (suc n) l e zero h =
+    eqb-true (slot_of (take z l)).cluster k (and_left (eqb (slot_of (take z l)).cluster k) (is_numbered_from (suc k) (slots_n z n (drop z l))) e)
+    ∙ sym (add-zero k)
+numbered_each z k (suc n) l e (suc i) h =
+    let rest = and_right (eqb (slot_of (take z l)).cluster k) (is_numbered_from (suc k) (slots_n z n (drop z l))) e in
+    let next : suc k + i ≡ k + suc i = omega arith in
+    numbered_each z (suc k) n (drop z l) rest i (omega arith) ∙ next
 
-  -- there is a slot i
-  inside : i < length (slots w l)
-  inside = omega (arith, length_slots w l, h.below)
+each_numbered : (z k n : ℕ) (l : List ℕ) → ((i : ℕ) → i < n → (slot_of (get_or (first_chunks z n l) i [])).cluster ≡ k + i)
+    → is_numbered_from k (slots_n z n l) ≡ true
+unfolding is_numbered_from slots_n
+each_numbered z k zero l h = refl
+each_numbered z k (suc n) l h =
+    let next : (i : ℕ) → k + suc i ≡ suc k + i = λ i. omega arith in
+    rw (eq-eqb (slot_of (take z l)).cluster k (h zero (omega arith) ∙ add-zero k))
+    (each_numbered z (suc k) n (drop z l) (λ i lt. h (suc i) (omega arith) ∙ next i))
 
-  -- so the search goes on where it is i, and ends where it is not
-  pub numbered_here : n ≡ i → is_numbered_from i (drop i (slots w l)) ≡ is_numbered_from (i + 1) (drop (i + 1) (slots w l))
-  unfolding is_numbered_from
-  numbered_here is = rw (drop-cons (slots w l) i no_slot inside, eq-eqb (slot (slots w l) i).cluster i (cluster_get ∙ is), add-one)
-
-  pub unnumbered_here : (n ≡ i → ⊥) → is_numbered_from i (drop i (slots w l)) ≡ false
-  unfolding is_numbered_from
-  unnumbered_here other = rw (drop-cons (slots w l) i no_slot inside, ne_eqb (slot (slots w l) i).cluster i (λ is. other (sym cluster_get ∙ is)))
-
--- past the last slot none is left
-pub numbered_all : (w : Shape) (l : List ℕ) (i : ℕ) → w.count ≤ i → is_numbered_from i (drop i (slots w l)) ≡ true
-unfolding is_numbered_from
-numbered_all w l i h = rw (drop_of_length-le (slots w l) {i = i} (omega (arith, length_slots w l)))
+-- so a test of that is the test of the line
+pub numbered_chunks : (z n : ℕ) (l : List ℕ) (qs : List (List ℕ)) (b : Bool) → qs ≡ first_chunks z n l → length qs ≡ n
+    → Decides b ((i : ℕ) → i < length qs → (slot_of (get_or qs i [])).cluster ≡ i) → b ≡ is_numbered_from 0 (slots (shape_with z n) l)
+unfolding slots
+numbered_chunks z n l qs b are many d =
+    let at : (i : ℕ) → (slot_of (get_or qs i [])).cluster ≡ (slot_of (get_or (first_chunks z n l) i [])).cluster = λ i. rw are refl in
+    same_from_decides b (is_numbered_from 0 (slots_n z n l)) d (
+      λ e i h. at i ∙ numbered_each z 0 n l e i (omega arith) ∙ zero-add i,
+      λ h. each_numbered z 0 n l (λ i lt. sym (at i) ∙ h i (omega arith) ∙ sym (zero-add i)),
+    )
 
 -- ---- there and back
 -- numbered slots are numbered

@@ -12,21 +12,19 @@ ghost use Rattle.slots.specs.Numbered.{is_numbered_from, numbered_from};
 use ints::big_endian::{read_i32, write_i32};
 use slots::layout::{CLUSTER, CLUSTERED_SIZE, SLOT_SIZE};
 
-// The line moved to slots with a cluster: each slot's number.
+// The line moved to slots with a cluster: each slot's number. Slots are named by their place: of `as_chunks_mut` no
+// contract says what the target ends as.
 pub fn number_slots(line: &[u8], n: usize, target: &mut [u8])
     requires { Fits (shape_with slot_size n) line.now × Fits (shape_with clustered_size n) target.old
         × (n ≤ whole32) }
     ensures { slots (shape_with clustered_size n) target.new
         ≡ numbered_from 0 (slots (shape_with slot_size n) line.now) }
 {
-    let mut i = 0;
-    while i < n {
+    for i in 0..n {
         let a = i * SLOT_SIZE;
-        let b = a + SLOT_SIZE;
-        let c = i * CLUSTERED_SIZE;
-        let d = c + CLUSTERED_SIZE;
-        copy_numbered(&line[a..b], &mut target[c..d], i as u32);
-        i += 1;
+        let b = i * CLUSTERED_SIZE;
+        let slot = &line[a..a + SLOT_SIZE];
+        copy_numbered(slot, &mut target[b..b + CLUSTERED_SIZE], i as u32);
     }
 }
 
@@ -36,32 +34,29 @@ pub fn drop_clusters(line: &[u8], n: usize, target: &mut [u8])
     ensures { slots (shape_with slot_size n) target.new
         ≡ map (with_cluster 0) (slots (shape_with clustered_size n) line.now) }
 {
-    let mut i = 0;
-    while i < n {
+    for i in 0..n {
         let a = i * CLUSTERED_SIZE;
-        let b = a + CLUSTERED_SIZE;
-        let c = i * SLOT_SIZE;
-        let d = c + SLOT_SIZE;
-        copy_slot(&line[a..b], &mut target[c..d]);
-        i += 1;
+        let b = i * SLOT_SIZE;
+        let slot = &line[a..a + CLUSTERED_SIZE];
+        copy_slot(slot, &mut target[b..b + SLOT_SIZE]);
     }
 }
 
-// Is each cluster its slot's number?
+// Is each cluster its slot's number? The clauses alone read n.
 pub fn is_numbered(line: &[u8], n: usize) -> bool
     requires { Fits (shape_with clustered_size n) line.now }
     ensures { result ≡ is_numbered_from 0 (slots (shape_with clustered_size n) line.now) }
 {
-    let mut i = 0;
-    while i < n {
-        let at = i * CLUSTERED_SIZE;
-        let end = at + CLUSTERED_SIZE;
-        if read_i32(&line[at..end], CLUSTER) as usize != i {
-            return false;
-        }
-        i += 1;
-    }
-    true
+    let (slots, _) = line.as_chunks::<CLUSTERED_SIZE>();
+    slots.iter().enumerate().all(|(i, slot)| cluster(slot) == i)
+}
+
+// A slot's cluster.
+fn cluster(slot: &[u8]) -> usize
+    requires { clustered_size ≤ length slot.now }
+    ensures { result ≡ (slot_of slot.now).cluster }
+{
+    read_i32(slot, CLUSTER) as usize
 }
 
 // One slot copied, with a cluster. The cluster is written first: its four bytes are then one store.
@@ -73,15 +68,11 @@ fn copy_numbered(from: &[u8], to: &mut [u8], cluster: u32)
     copy_slot(from, to);
 }
 
-// The first 24 bytes of a slot copied, as six numbers of 32 bits. What the target has for a cluster stays.
+// The first 24 bytes of a slot copied. What the target has for a cluster stays.
 fn copy_slot(from: &[u8], to: &mut [u8])
     requires { (slot_size ≤ length from.now) × (slot_size ≤ length to.old) }
     ensures { slot_of to.new ≡ with_cluster (slot_of to.old).cluster
         (slot_of from.now) }
 {
-    let mut k = 0;
-    while k < SLOT_SIZE {
-        write_i32(to, k, read_i32(from, k));
-        k += 4;
-    }
+    to[..SLOT_SIZE].copy_from_slice(&from[..SLOT_SIZE]);
 }

@@ -1,8 +1,7 @@
 -- The first i slots have no cluster. Assumes nothing.
 use mathlib.Core.Path.{◌≡◌}
 use mathlib.Core.List.{map}
-use Prim.Native.Nat.{◌-◌, ◌≤◌}
-use lib.ListN.{length, take}
+use lib.ListN.{take}
 use Rattle.slots.specs.Slot.{clustered_size, slot_size}
 use Rattle.slots.specs.Fields.{with_cluster}
 use Rattle.slots.specs.Line.{shape_with, slots}
@@ -10,8 +9,4 @@ use Rattle.moves.proofs.drop_clusters.Given as goal
 
 abbrev pub invariant-loop-i : goal.invariant-loop-i
 invariant-loop-i l =
-    (l.i ≤ l.n) × (length l.target ≡ length l.fn.target)
-    × (take l.i (slots (shape_with slot_size l.n) l.target) ≡ take l.i (map (with_cluster 0) (slots (shape_with clustered_size l.n) l.line)))
-
-abbrev pub decreases-loop-i : goal.decreases-loop-i
-decreases-loop-i l = l.n - l.i
+    take l.i (slots (shape_with slot_size l.n) l.target) ≡ take l.i (map (with_cluster 0) (slots (shape_with clustered_size l.n) l.line))
