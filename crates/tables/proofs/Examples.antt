@@ -1,9 +1,9 @@
 -- Worked values: the definitions at tables that are written out, after the examples of the OpenType chapters and by hand. They compute. Assumes
 -- nothing.
+use Rattle.std.specs.Prelude.{None, Some}
 use mathlib.Core.Path.{◌≡◌, refl}
 use mathlib.Core.Bool.{true, false}
 use mathlib.Core.List.{List, [], ◌∷◌, map}
-use mathlib.Core.Option.{some, none}
 use Prim.Native.Nat.{ℕ}
 use lib.IntN.{ℤ, pos, negsuc}
 use lib.ListN.{take}
@@ -17,8 +17,6 @@ use Rattle.tables.specs.ClassDef.{class_at, class_good, class_good_at, class_of}
 use Rattle.tables.specs.Anchor.{Point, anchor_of}
 use Rattle.tables.specs.MarkArray.{MarkAnchor, mark_of}
 use Rattle.tables.specs.AnchorRows.{anchor_in, rows_of}
-use Rattle.tables.specs.declared.coverage.Covered.TheVariants.{Index, Not}
-use Rattle.tables.specs.declared.anchor_rows.Rows.TheVariants.{Of, Absent}
 
 abbrev point : ℤ → ℤ → Point
 point x y = record { x = x; y = y }
@@ -57,11 +55,11 @@ rows = words (1 ∷ 6 ∷ 0 ∷ 1 ∷ 7 ∷ 8 ∷ [])
 
 pub record Worked : Type 0 where
   -- coverage 1: the first glyph, one in between, the last, and one that isn't there
-  pub coverage_1 : map (coverage_index glyphs) (56 ∷ 66 ∷ 74 ∷ 57 ∷ []) ≡ (Index 0 ∷ Index 3 ∷ Index 4 ∷ Not ∷ [])
+  pub coverage_1 : map (coverage_index glyphs) (56 ∷ 66 ∷ 74 ∷ 57 ∷ []) ≡ (Some 0 ∷ Some 3 ∷ Some 4 ∷ None ∷ [])
   -- coverage 2: both ends of a range, a glyph past it, and the index of the second range
-  pub coverage_2 : map (coverage_index ranges) (78 ∷ 87 ∷ 88 ∷ 101 ∷ []) ≡ (Index 0 ∷ Index 9 ∷ Not ∷ Index 11 ∷ [])
+  pub coverage_2 : map (coverage_index ranges) (78 ∷ 87 ∷ 88 ∷ 101 ∷ []) ≡ (Some 0 ∷ Some 9 ∷ None ∷ Some 11 ∷ [])
   -- its index is a plain sum, not cut at 16 bits
-  pub coverage_sum : coverage_index (words (2 ∷ 1 ∷ 10 ∷ 20 ∷ 65535 ∷ [])) 20 ≡ Index 65545
+  pub coverage_sum : coverage_index (words (2 ∷ 1 ∷ 10 ∷ 20 ∷ 65535 ∷ [])) 20 ≡ Some 65545
   -- the check: both are good; two equal glyphs, a range that starts in the one before, one that ends before it starts, a cut list and an unknown format are not
   pub coverage_check : map coverage_good (glyphs ∷ ranges ∷ words (1 ∷ 2 ∷ 9 ∷ 9 ∷ []) ∷ words (2 ∷ 2 ∷ 5 ∷ 9 ∷ 0 ∷ 9 ∷ 12 ∷ 5 ∷ [])
       ∷ words (2 ∷ 1 ∷ 9 ∷ 5 ∷ 0 ∷ []) ∷ take 13 glyphs ∷ words (3 ∷ 0 ∷ []) ∷ [])
@@ -73,21 +71,21 @@ pub record Worked : Type 0 where
   -- the check: both are good, cut ones are not
   pub class_check : map class_good (array ∷ classes ∷ take 13 array ∷ take 21 classes ∷ []) ≡ (true ∷ true ∷ false ∷ false ∷ [])
   -- offset 0 is good, covers nothing and gives class 0
-  pub offset_0 : (coverage_good_at [] 0 ≡ true) × (coverage_at glyphs 0 56 ≡ Not) × (class_good_at [] 0 ≡ true) × (class_at classes 0 48 ≡ 0)
+  pub offset_0 : (coverage_good_at [] 0 ≡ true) × (coverage_at glyphs 0 56 ≡ None) × (class_good_at [] 0 ≡ true) × (class_at classes 0 48 ≡ 0)
   -- another offset leads into the table; past the end it is cut
-  pub offset : (coverage_at (7 ∷ 7 ∷ glyphs) 2 59 ≡ Index 1) × (coverage_good_at glyphs 15 ≡ false)
+  pub offset : (coverage_at (7 ∷ 7 ∷ glyphs) 2 59 ≡ Some 1) × (coverage_good_at glyphs 15 ≡ false)
   -- anchors of each format, and the same with the last byte cut off
-  pub anchor : map anchor_of anchors ≡ (some (point (pos 189) (negsuc 102)) ∷ some (point (pos 322) (pos 900)) ∷ some (point (pos 279) (pos 1301)) ∷ [])
-  pub anchor_cut : map anchor_of (take 5 (words (1 ∷ 189 ∷ 65433 ∷ [])) ∷ words (3 ∷ 279 ∷ 1301 ∷ 10 ∷ []) ∷ []) ≡ (none ∷ none ∷ [])
+  pub anchor : map anchor_of anchors ≡ (Some (point (pos 189) (negsuc 102)) ∷ Some (point (pos 322) (pos 900)) ∷ Some (point (pos 279) (pos 1301)) ∷ [])
+  pub anchor_cut : map anchor_of (take 5 (words (1 ∷ 189 ∷ 65433 ∷ [])) ∷ words (3 ∷ 279 ∷ 1301 ∷ 10 ∷ []) ∷ []) ≡ (None ∷ None ∷ [])
   -- the formats 0 and 4 are unknown
-  pub anchor_unknown : map anchor_of (words (0 ∷ 1 ∷ 1 ∷ []) ∷ words (4 ∷ 1 ∷ 1 ∷ 1 ∷ 1 ∷ 1 ∷ []) ∷ []) ≡ (none ∷ none ∷ [])
+  pub anchor_unknown : map anchor_of (words (0 ∷ 1 ∷ 1 ∷ []) ∷ words (4 ∷ 1 ∷ 1 ∷ 1 ∷ 1 ∷ 1 ∷ []) ∷ []) ≡ (None ∷ None ∷ [])
   -- a mark, and a mark record past the count
-  pub mark_array : map (mark_of marks) (0 ∷ 1 ∷ []) ≡ (some (mark 3 (point (pos 10) (pos 20))) ∷ none ∷ [])
+  pub mark_array : map (mark_of marks) (0 ∷ 1 ∷ []) ≡ (Some (mark 3 (point (pos 10) (pos 20))) ∷ None ∷ [])
   -- a zero anchor offset in a mark record is read as given
-  pub mark_zero : mark_of zero_mark 0 ≡ some (mark 3 (point (pos 3) (pos 0)))
+  pub mark_zero : mark_of zero_mark 0 ≡ Some (mark 3 (point (pos 3) (pos 0)))
   -- rows: an anchor, a zero offset, a class past the class count, a row past the row count; and a table that isn't whole
-  pub row : map (anchor_in rows 1 2 0) (0 ∷ 1 ∷ 2 ∷ []) ≡ (some (point (pos 7) (pos 8)) ∷ none ∷ none ∷ [])
-  pub row_past : (anchor_in rows 1 2 1 0 ≡ none) × (rows_of rows 2 ≡ Of 1) × (rows_of rows 6 ≡ Absent)
+  pub row : map (anchor_in rows 1 2 0) (0 ∷ 1 ∷ 2 ∷ []) ≡ (Some (point (pos 7) (pos 8)) ∷ None ∷ None ∷ [])
+  pub row_past : (anchor_in rows 1 2 1 0 ≡ None) × (rows_of rows 2 ≡ Some 1) × (rows_of rows 6 ≡ None)
 
 pub worked : Worked
 unfolding ascends first_holding span_at spans_from nat_at int_at signed
@@ -117,9 +115,9 @@ offsets = 0 ∷ 6 ∷ 0 ∷ 0 ∷ 0 ∷ 9 ∷ 5 ∷ []
 
 pub record Ends : Type 0 where
   -- coverage: an empty list is good and covers nothing; a header of 3 bytes is cut
-  pub coverage_empty : (coverage_good (words (1 ∷ 0 ∷ [])) ≡ true) × (coverage_index (words (1 ∷ 0 ∷ [])) 0 ≡ Not) × (coverage_good (0 ∷ 1 ∷ 0 ∷ []) ≡ false)
+  pub coverage_empty : (coverage_good (words (1 ∷ 0 ∷ [])) ≡ true) × (coverage_index (words (1 ∷ 0 ∷ [])) 0 ≡ None) × (coverage_good (0 ∷ 1 ∷ 0 ∷ []) ≡ false)
   -- one range of all glyphs; a range may start right after the one before; after glyph 65,535 none can follow
-  pub coverage_all : (coverage_good (words (2 ∷ 1 ∷ 0 ∷ 65535 ∷ 0 ∷ [])) ≡ true) × (coverage_index (words (2 ∷ 1 ∷ 0 ∷ 65535 ∷ 0 ∷ [])) 65535 ≡ Index 65535)
+  pub coverage_all : (coverage_good (words (2 ∷ 1 ∷ 0 ∷ 65535 ∷ 0 ∷ [])) ≡ true) × (coverage_index (words (2 ∷ 1 ∷ 0 ∷ 65535 ∷ 0 ∷ [])) 65535 ≡ Some 65535)
   pub coverage_next : map coverage_good (words (2 ∷ 2 ∷ 5 ∷ 9 ∷ 0 ∷ 10 ∷ 10 ∷ 5 ∷ []) ∷ words (2 ∷ 2 ∷ 65535 ∷ 65535 ∷ 0 ∷ 0 ∷ 0 ∷ 1 ∷ []) ∷ []) ≡ (true ∷ false ∷ [])
   -- class lists: no classes in 6 bytes are good, 5 bytes are cut; formats 0 and 3 are unknown; ranges that share a glyph are not ascending
   pub class_ends : map class_good (words (1 ∷ 7 ∷ 0 ∷ []) ∷ take 5 (words (1 ∷ 7 ∷ 0 ∷ [])) ∷ words (0 ∷ 0 ∷ 0 ∷ []) ∷ words (3 ∷ 0 ∷ 0 ∷ [])
@@ -133,11 +131,11 @@ pub record Ends : Type 0 where
   pub children : (map (child_of offsets 0 3) (0 ∷ 1 ∷ 2 ∷ []) ≡ ((5 ∷ []) ∷ [] ∷ [] ∷ [])) × (child_of offsets 0 1 1 ≡ []) × (child_of offsets 0 9 3 ≡ [])
   -- an anchor of format 2 with its coordinates but not its last byte is none; bytes past its own don't matter; coordinates are signed
   pub anchor_ends : map anchor_of (take 7 (words (2 ∷ 1 ∷ 1 ∷ 1 ∷ [])) ∷ words (1 ∷ 32768 ∷ 32767 ∷ 9 ∷ []) ∷ (0 ∷ []) ∷ [])
-      ≡ (none ∷ some (point (negsuc 32767) (pos 32767)) ∷ none ∷ [])
+      ≡ (None ∷ Some (point (negsuc 32767) (pos 32767)) ∷ None ∷ [])
   -- a mark record whose last byte is cut, one whose anchor is cut, and a mark array of one byte
-  pub marks_cut : (mark_of (take 5 marks) 0 ≡ none) × (mark_of (take 11 marks) 0 ≡ none) × (mark_of (1 ∷ []) 0 ≡ none)
+  pub marks_cut : (mark_of (take 5 marks) 0 ≡ None) × (mark_of (take 11 marks) 0 ≡ None) × (mark_of (1 ∷ []) 0 ≡ None)
   -- rows: none; rows without columns; a count of one byte
-  pub rows_ends : (rows_of (words (0 ∷ [])) 9 ≡ Of 0) × (rows_of (words (7 ∷ [])) 0 ≡ Of 7) × (rows_of (0 ∷ []) 0 ≡ Absent)
+  pub rows_ends : (rows_of (words (0 ∷ [])) 9 ≡ Some 0) × (rows_of (words (7 ∷ [])) 0 ≡ Some 7) × (rows_of (0 ∷ []) 0 ≡ None)
 
 pub ends : Ends
 unfolding ascends first_holding span_at spans_from nat_at int_at signed

@@ -1,10 +1,10 @@
 -- Laws of lists of spans: what an ascending list says of its spans, where the first span that holds a glyph lies, and the law of the search:
 -- by halves one finds what the plain reading finds. Assumes nothing.
 use Rattle.std.specs.Prelude.{if◌then◌else◌}
-use mathlib.Core.Path.{◌≡◌, refl, sym, ap, subst, ◌∙◌}
+use mathlib.Core.Path.{◌≡◌, refl, sym, ap, subst}
 use mathlib.Core.Logic.{◌⊎◌, inl, inr, ⊎_elim}
 use mathlib.Core.Bool.{Bool, true, false, ◌&&◌}
-use mathlib.Core.List.{List, ◌∷◌}
+use mathlib.Core.List.{◌∷◌}
 use Prim.Native.Nat.{ℕ, zero, suc, ◌+◌, ◌-◌, ◌*◌, ◌≤◌, ◌<◌}
 use native.Mathlib.Decide.{dec_le}
 use native.Mathlib.Nat.{add-zero, eq-or-lt_of_le, lt_of_not-le, mul-le-mul_left, mul-suc}
@@ -16,10 +16,6 @@ use Rattle.ints.proofs.TestLaws.{and_left, and_right}
 use Rattle.tables.specs.Spans.{Span, ascends, first_holding, holds, spans_from}
 
 -- ---- rows of an array
--- one row more
-pub next_row : (d k : ℕ) → d * (k + 1) ≡ d * k + d
-next_row d k = ap (λ (m : ℕ). d * m) (add-one k) ∙ mul-suc d k
-
 -- a row before the last ends within the rows
 pub row_in : (d k n : ℕ) → k < n → d * k + d ≤ d * n
 row_in d k n h = subst (λ (m : ℕ). m ≤ d * n) (mul-suc d k) (mul-le-mul_left d h)
@@ -34,24 +30,22 @@ side i m = go (dec_le m i)
 
 -- ---- ascending lists
 -- the spans from k on, of n in all, taken one off
-pub spans_step : (f : ℕ → Span) (k n : ℕ) → k < n → spans_from f k (n - k) ≡ f k ∷ spans_from f (k + 1) (n - (k + 1))
+spans_step : (f : ℕ → Span) (k n : ℕ) → k < n → spans_from f k (n - k) ≡ f k ∷ spans_from f (k + 1) (n - (k + 1))
 unfolding spans_from
 spans_step f k n h =
     let e : n - k ≡ suc (n - (k + 1)) = omega arith in
     rw (e, add-one k)
 
--- the test at one span: it passes, starts too low, or ends before it starts
-pub ascends_in : (b : ℕ) (p : Span) (ps : List Span) → b ≤ p.first → p.first ≤ p.last → ascends b (p ∷ ps) ≡ ascends (p.last + 1) ps
-unfolding ascends
-ascends_in b p ps h l = simp (le-leb b p.first h, le-leb p.first p.last l)
+-- the test of the spans from k on, by the ends of span k: it goes on above the last glyph, or fails
+module _ (f : ℕ → Span) (b k n : ℕ) (h : k < n) {first last : ℕ} (p : first ≡ (f k).first) (q : last ≡ (f k).last) where
+  pub ascends_on : b ≤ first → first ≤ last → ascends b (spans_from f k (n - k)) ≡ ascends (last + 1) (spans_from f (k + 1) (n - (k + 1)))
+  unfolding ascends
+  ascends_on l m = simp (spans_step f k n h, ← p, ← q, le-leb b first l, le-leb first last m)
 
-pub ascends_low : (b : ℕ) (p : Span) (ps : List Span) → p.first < b → ascends b (p ∷ ps) ≡ false
-unfolding ascends
-ascends_low b p ps h = simp (lt-leb b p.first h)
-
-pub ascends_turned : (b : ℕ) (p : Span) (ps : List Span) → b ≤ p.first → p.last < p.first → ascends b (p ∷ ps) ≡ false
-unfolding ascends
-ascends_turned b p ps h l = simp (le-leb b p.first h, lt-leb p.first p.last l)
+  pub ascends_off : (first < b) ⊎ (b ≤ first × last < first) → ascends b (spans_from f k (n - k)) ≡ false
+  unfolding ascends
+  ascends_off (inl l) = simp (spans_step f k n h, ← p, lt-leb b first l)
+  ascends_off (inr (l, m)) = simp (spans_step f k n h, ← p, ← q, le-leb b first l, lt-leb first last m)
 
 -- a list that ascends from b, by its members, which have the numbers from k to k + n
 pub record Apart (f : ℕ → Span) (b k n : ℕ) : Type 0 where

@@ -1,7 +1,7 @@
 -- The Anchor table (OpenType, GPOS): uint16 anchorFormat, int16 xCoordinate, int16 yCoordinate; then in format 2 a
 -- uint16, in format 3 two offsets, which are left unread. Assumes nothing.
+use Rattle.std.specs.Prelude.{None, Option, Some}
 use Rattle.std.specs.Prelude.{Bool, ◌&&◌, List, ℕ, ◌+◌, ◌*◌, leb, ℤ, length, if◌then◌else◌}
-use Rattle.std.proofs.Math.Option.{Option, some, none}
 use Rattle.ints.specs.BigEndian.{u16_at}
 use Rattle.ints.specs.Signed.{int_at}
 use Rattle.slots.specs.declared.axis.Axis.{Axis}
@@ -45,4 +45,4 @@ anchor_there t =
 
 -- the anchor of a table: none where it is cut or of unknown format
 abbrev pub anchor_of : List ℕ → Option Point
-anchor_of t = if anchor_there t then some (record { x = x_coordinate t; y = y_coordinate t }) else none
+anchor_of t = if anchor_there t then Some (record { x = x_coordinate t; y = y_coordinate t }) else None

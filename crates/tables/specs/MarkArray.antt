@@ -1,7 +1,7 @@
 -- The MarkArray table (OpenType, GPOS): uint16 markCount, markRecords[markCount] of uint16 markClass, Offset16
 -- markAnchorOffset from the array's start. Assumes nothing.
+use Rattle.std.specs.Prelude.{None, Option, Some}
 use Rattle.std.specs.Prelude.{Bool, ◌&&◌, List, ℕ, ◌+◌, ◌*◌, leb, ltb, drop, length, if◌then◌else◌}
-use Rattle.std.proofs.Math.Option.{Option, some, none}
 use Rattle.ints.specs.BigEndian.{u16_at}
 use Rattle.tables.specs.Anchor.{Point, anchor_of}
 
@@ -41,11 +41,11 @@ record_there t k =
 
 -- the mark of a class with this anchor, if there is one
 abbrev pub with_class : ℕ → Option Point → Option MarkAnchor
-with_class c (some a) = some (record { class = c; anchor = a })
-with_class c none = none
+with_class c (Some a) = Some (record { class = c; anchor = a })
+with_class c None = None
 
 -- mark k of the array t. Its anchor offset isn't nullable, unlike those of base arrays: 0 is read as given, and leads
 -- to the array's own start.
 abbrev pub mark_of : List ℕ → ℕ → Option MarkAnchor
 mark_of t k =
-    if record_there t k then with_class (mark_class t k) (anchor_of (drop (mark_anchor_offset t k) t)) else none
+    if record_there t k then with_class (mark_class t k) (anchor_of (drop (mark_anchor_offset t k) t)) else None

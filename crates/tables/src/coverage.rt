@@ -16,37 +16,24 @@ const COUNT: usize = 2;
 // Format 2: where in a range record its first glyph's index is.
 const START_COVERAGE_INDEX: usize = 4;
 
-// A glyph's coverage index.
-#[derive(Clone, Copy)]
-pub enum Covered {
-    // It is covered, with this index.
-    Index(usize),
-    // It isn't.
-    Not,
-}
-
 // The check of the table at an offset: offset 0 is good and covers nothing.
 pub fn good_at(s: &[u8], off: usize) -> bool
     ensures { result ≡ coverage_good_at s.now off }
 {
-    if off == 0 {
-        return true;
-    }
-    if s.len() < off {
-        return false;
-    }
-    good(&s[off..])
+    // `s.get(off..).is_some_and(good)` takes a third more instructions.
+    off == 0 || off <= s.len() && good(&s[off..])
 }
 
-// A glyph's index in the table at an offset that is good.
-pub fn index_at(s: &[u8], off: usize, glyph: u32) -> Covered
+// A glyph's coverage index in the table at an offset that is good: none where it isn't covered.
+pub fn index_at(s: &[u8], off: usize, glyph: u32) -> Option<usize>
     requires { (glyph < whole16) × (coverage_good_at s.now off ≡ true) }
     ensures { result ≡ coverage_at s.now off glyph }
 {
     if off == 0 {
-        return Covered::Not;
+        None
+    } else {
+        index_of(&s[off..], glyph)
     }
-    index_of(&s[off..], glyph)
 }
 
 // The check of a table: whole, of a known format, strictly ascending.
@@ -56,42 +43,37 @@ fn good(t: &[u8]) -> bool
     if t.len() < LIST_HEADER_SIZE {
         return false;
     }
-    let format = read_u16(t, COVERAGE_FORMAT);
     let count = read_u16(t, COUNT) as usize;
-    if format == 1 {
-        if t.len() < LIST_HEADER_SIZE + GLYPH_SIZE * count {
-            return false;
+    match read_u16(t, COVERAGE_FORMAT) {
+        1 => {
+            LIST_HEADER_SIZE + GLYPH_SIZE * count <= t.len() && ascending(t, GLYPH_SIZE, 0, count)
         }
-        return ascending(t, GLYPH_SIZE, 0, count);
-    }
-    if format == 2 {
-        if t.len() < LIST_HEADER_SIZE + RANGE_RECORD_SIZE * count {
-            return false;
+        2 => {
+            LIST_HEADER_SIZE + RANGE_RECORD_SIZE * count <= t.len()
+                && ascending(t, RANGE_RECORD_SIZE, END_GLYPH_ID, count)
         }
-        return ascending(t, RANGE_RECORD_SIZE, END_GLYPH_ID, count);
+        _ => false,
     }
-    false
 }
 
 // A glyph's index in a table that is good.
-fn index_of(t: &[u8], glyph: u32) -> Covered
+#[tactic(auto, using(crate::proofs::CoverageLaws::range_starts))]
+fn index_of(t: &[u8], glyph: u32) -> Option<usize>
     requires { (glyph < whole16) × (coverage_good t.now ≡ true) }
     ensures { result ≡ coverage_index t.now glyph }
 {
     let count = read_u16(t, COUNT) as usize;
     if read_u16(t, COVERAGE_FORMAT) == 1 {
         let k = seek(t, GLYPH_SIZE, 0, count, glyph);
-        if k < count {
-            return Covered::Index(k);
-        }
-        return Covered::Not;
+        return (k < count).then_some(k);
     }
     let k = seek(t, RANGE_RECORD_SIZE, END_GLYPH_ID, count, glyph);
     if k < count {
         let at = LIST_HEADER_SIZE + RANGE_RECORD_SIZE * k;
         let start = read_u16(t, at);
         let index = read_u16(t, at + START_COVERAGE_INDEX);
-        return Covered::Index((index + glyph - start) as usize);
+        Some((index + glyph - start) as usize)
+    } else {
+        None
     }
-    Covered::Not
 }

@@ -13,19 +13,15 @@ pub const COVERAGE_OFFSET: usize = 2;
 pub const MOST_BYTES: usize = 65536;
 
 // The header is whole and its format known: it has `one` bytes in format 1, `two` in format 2.
+#[tactic(auto, unfolding(crate::specs::Header::header_good))]
 pub fn header_good(t: &[u8], one: usize, two: usize) -> bool
     requires { 2 ≤ one }
     ensures { result ≡ header_good one two t.now }
 {
-    if t.len() < one {
-        return false;
-    }
-    let format = read_u16(t, POS_FORMAT);
-    if format == 1 {
-        return true;
-    }
-    if format == 2 {
-        return two <= t.len();
-    }
-    false
+    one <= t.len()
+        && match read_u16(t, POS_FORMAT) {
+            1 => true,
+            2 => two <= t.len(),
+            _ => false,
+        }
 }

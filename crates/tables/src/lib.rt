@@ -7,6 +7,7 @@ pub mod part; // tables at offsets
 pub mod spans; // lists of spans: the ascending test and the search
 pub mod coverage; // which glyphs a subtable is about, and the index of each
 pub mod class_def; // the class of each glyph
-pub mod anchor; // a point of a glyph
+pub mod point; // a place in a glyph
+pub mod anchor; // the point of an anchor
 pub mod mark_array; // class and anchor of each mark
 pub mod anchor_rows; // the anchors of bases and of components, one for each mark class

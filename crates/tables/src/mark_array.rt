@@ -2,9 +2,10 @@
 ghost use Rattle.std.specs.Prelude.{◌≡◌, drop};
 ghost use Rattle.tables.specs.Anchor.{anchor_of};
 ghost use Rattle.tables.specs.MarkArray.{mark_of, with_class};
-ghost use Rattle.tables.specs.code.Meant.{MarkNear, mark_anchor};
+ghost use Rattle.tables.specs.code.Meant.{mark_anchor};
 
-use crate::anchor::{Anchor, Point, anchor_of};
+use crate::anchor::anchor_of;
+use crate::point::Point;
 use ints::big_endian::read_u16;
 
 // The count, where the records start that follow it, and the bytes of a record.
@@ -19,26 +20,21 @@ const MARK_ANCHOR_OFFSET: usize = 2;
 
 // A mark of an array.
 #[derive(Clone, Copy)]
-pub enum Mark {
-    // Its class, and its anchor.
-    Of { class: u32, anchor: Point },
-    // The array has no such mark, its record is cut, or it has no anchor.
-    Absent,
+pub struct Mark {
+    pub class: u32,
+    pub anchor: Point,
 }
 
-// Mark k of the array, absent where its record is past the count or cut, or its anchor is none.
-pub fn mark_of(t: &[u8], k: usize) -> Mark
-    ensures { (mark_anchor result ≡ mark_of t.now k) × MarkNear result }
+// Mark k of the array: none where its record is past the count or cut, or its anchor is none.
+pub fn mark_of(t: &[u8], k: usize) -> Option<Mark>
+    ensures { mark_anchor result ≡ mark_of t.now k }
 {
-    if t.len() < MARK_RECORDS {
-        return Mark::Absent;
-    }
-    if (read_u16(t, MARK_COUNT) as usize) <= k {
-        return Mark::Absent;
+    if t.len() < MARK_RECORDS || (read_u16(t, MARK_COUNT) as usize) <= k {
+        return None;
     }
     let at = MARK_RECORDS + MARK_RECORD_SIZE * k;
     if t.len() < at + MARK_RECORD_SIZE {
-        return Mark::Absent;
+        return None;
     }
     mark_with(
         t,
@@ -49,17 +45,9 @@ pub fn mark_of(t: &[u8], k: usize) -> Mark
 
 // The anchor at an offset of the array, with the mark's class. Unlike the offsets of base arrays this one isn't
 // nullable: 0 is read as given, and leads to the array's own start.
-fn mark_with(t: &[u8], class: u32, off: usize) -> Mark
-    ensures { (mark_anchor result ≡ with_class class (anchor_of (drop off t.now))) × MarkNear result }
+fn mark_with(t: &[u8], class: u32, off: usize) -> Option<Mark>
+    ensures { mark_anchor result ≡ with_class class (anchor_of (drop off t.now)) }
 {
-    if t.len() < off {
-        return Mark::Absent;
-    }
-    match anchor_of(&t[off..]) {
-        Anchor::At(p) => Mark::Of {
-            class: class,
-            anchor: p,
-        },
-        Anchor::Absent => Mark::Absent,
-    }
+    let anchor = anchor_of(t.get(off..)?)?;
+    Some(Mark { class, anchor })
 }

@@ -14,25 +14,21 @@ pub fn child_of<'a>(s: &'a [u8], at: usize, count: usize, k: usize) -> &'a [u8]
     requires { (at < whole16) × (count < offsets_end) }
     ensures { result.now ≡ child_of s.now at count k }
 {
-    if count <= k {
-        return &s[..0];
+    if count <= k || s.len() < at + OFFSET_SIZE * (k + 1) {
+        &[]
+    } else {
+        table_at(s, read_u16(s, at + OFFSET_SIZE * k) as usize)
     }
-    let here = at + OFFSET_SIZE * k;
-    if s.len() < here + OFFSET_SIZE {
-        return &s[..0];
-    }
-    table_at(s, read_u16(s, here) as usize)
 }
 
 // The table at an offset: the part from there to the end, empty where there is none. Offset 0 is none.
 pub fn table_at<'a>(s: &'a [u8], off: usize) -> &'a [u8]
     ensures { result.now ≡ table_at s.now off }
 {
-    if off == 0 {
-        return &s[..0];
+    // `s.get(off..).unwrap_or(&[])` after the test of 0 takes two instructions more in `child_of`.
+    if off == 0 || s.len() < off {
+        &[]
+    } else {
+        &s[off..]
     }
-    if off <= s.len() {
-        return &s[off..];
-    }
-    &s[..0]
 }

@@ -1,7 +1,7 @@
 // One ascending test and one search for lists of spans: coverage 1, coverage 2 and class list 2.
 ghost use Rattle.std.specs.Prelude.{true, ◌≡◌, ◌+◌, ◌≤◌, ◌<◌, length};
 ghost use Rattle.ints.specs.Limits.{whole16};
-ghost use Rattle.tables.specs.Spans.{ascends, first_holding, range_record_size, span_place, spans};
+ghost use Rattle.tables.specs.Spans.{ascends, first_holding, range_record_size, span_at, span_place, spans};
 
 use ints::big_endian::read_u16;
 
@@ -24,25 +24,29 @@ pub fn ascending(t: &[u8], stride: usize, over: usize, count: usize) -> bool
     ensures { result ≡ ascends 0 (spans t.now stride over count) }
 {
     let mut bound = 0;
-    let mut at = LIST_HEADER_SIZE;
-    let mut k = 0;
-    while k < count {
-        let first = read_u16(t, at);
-        let last = read_u16(t, at + over);
-        if first < bound {
-            return false;
-        }
-        if last < first {
+    for k in 0..count {
+        let (first, last) = ends_of(t, stride, over, k);
+        if first < bound || last < first {
             return false;
         }
         bound = last + 1;
-        at += stride;
-        k += 1;
     }
     true
 }
 
+// The first and the last glyph of span k.
+#[tactic(auto, unfolding(crate::specs::Spans::span_at))]
+fn ends_of(t: &[u8], stride: usize, over: usize, k: usize) -> (u32, u32)
+    requires { (over + 2 ≤ stride) × (span_place stride (k + 1) ≤ length t.now) }
+    ensures first { (result.0 ≡ (span_at t.now stride over k).first) × (result.0 < whole16) }
+    ensures last { (result.1 ≡ (span_at t.now stride over k).last) × (result.1 < whole16) }
+{
+    let at = LIST_HEADER_SIZE + stride * k;
+    (read_u16(t, at), read_u16(t, at + over))
+}
+
 // The number of the span that holds the glyph, and `count` where none does: by halves.
+// By hand: the library searches want items, and `as_chunks` makes items of a constant size, while `stride` is a value.
 pub fn seek(t: &[u8], stride: usize, over: usize, count: usize, glyph: u32) -> usize
     requires whole { (over + 2 ≤ stride) × (stride ≤ range_record_size) × (count < whole16)
         × (span_place stride count ≤ length t.now) }
@@ -53,9 +57,7 @@ pub fn seek(t: &[u8], stride: usize, over: usize, count: usize, glyph: u32) -> u
     let mut hi = count;
     while lo < hi {
         let mid = lo + (hi - lo) / 2;
-        let at = LIST_HEADER_SIZE + stride * mid;
-        let first = read_u16(t, at);
-        let last = read_u16(t, at + over);
+        let (first, last) = ends_of(t, stride, over, mid);
         if glyph < first {
             hi = mid;
         } else if last < glyph {
