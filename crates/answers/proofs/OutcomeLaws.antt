@@ -42,10 +42,6 @@ module _ (c : Call) (z : ℕ) (l : List ℕ) where
     answers_slots : answer_to c z l ≡ c.says (line_slots z l)
     answers_slots = rw whole
 
-    -- a refusal
-    pub made_refused : {w : Shape} (n : ℕ) → w ≡ shape_of z l → c.says (slots w l) ≡ refused n → Made c z l (refused n) l
-    made_refused n is e = outcome_refused z l (answer_to c z l) (c.leaves (line_slots z l)) n (answers_slots ∙ rw is at e)
-
     -- what a core said and left of the slots of that shape
     pub made_by : {w : Shape} (l' : List ℕ) (given : Said) → w ≡ shape_of z l → AllBytes l → AllBytes l' → length l' ≡ length l
         → Effect (slots w l) (c.says (slots w l)) (c.leaves (slots w l)) given (slots w l') → Made c z l given l'

@@ -1,20 +1,18 @@
 -- What a call says, in the terms of docs/RULES.md, and what each case of code's answers says. Assumes nothing.
-use Rattle.std.specs.Prelude.{Bool, List, [], ◌∷◌, ℕ, if◌then◌else◌}
+use Rattle.std.specs.Prelude.{Bool, List, [], ◌∷◌, ℕ, Result, Ok, Err, if◌then◌else◌}
 use Rattle.answers.specs.declared.HazardKind.{HazardKind}
 use Rattle.answers.specs.declared.HazardKind.TheVariants.{UnsafeToBreak, UnsafeToConcat}
 use Rattle.answers.specs.declared.Hazard.{Hazard}
-use Rattle.answers.specs.declared.Hazards.{Hazards}
-use Rattle.answers.specs.declared.Hazards.TheVariants.{None, One, Two}
+use Rattle.answers.specs.declared.UpToTwo.{UpToTwo}
+use Rattle.answers.specs.declared.UpToTwo.TheVariants.{None, One, Two}
 use Rattle.answers.specs.declared.Refusal.{Refusal}
 use Rattle.answers.specs.declared.Refusal.TheVariants.{Line, Direction, Number, Slot, Index, Subtable, Endless}
+use Rattle.answers.specs.declared.WiderRefusal.{WiderRefusal}
+use Rattle.answers.specs.declared.WiderRefusal.TheVariants.{Shared, Unfit}
 use Rattle.answers.specs.declared.Answer.{Answer}
-use Rattle.answers.specs.declared.Answer.TheVariants.{Applied, Declined, Refused}
-use Rattle.answers.specs.declared.Moved.{Moved}
-use Rattle.answers.specs.declared.Moved.TheVariants.{Done as MovedNow, Refused as NotMoved, Unfit}
-use Rattle.answers.specs.declared.Done.{Done}
-use Rattle.answers.specs.declared.Done.TheVariants.{Done as DoneNow, Refused as NotDone}
+use Rattle.answers.specs.declared.Answer.TheVariants.{Applied, Declined}
 use Rattle.answers.specs.declared.Ran.{Ran}
-use Rattle.answers.specs.declared.Ran.TheVariants.{Done as RanToEnd, Endless as RanInto7, Refused as NotRun, Unfit as UnfitRun}
+use Rattle.answers.specs.declared.Ran.TheVariants.{Done as RanToEnd, Endless as RanInto7}
 
 -- a hazard: unsafe to break, or unsafe to concatenate, from a start up to an end, which is not included
 pub data Range : Type 0 where
@@ -56,27 +54,31 @@ abbrev pub range : Hazard → Range
 range h = range_of h.kind h.start h.end
 
 -- what code's hazards say, in order
-abbrev pub ranges : Hazards → List Range
+abbrev pub ranges : UpToTwo Hazard → List Range
 ranges None = []
 ranges (One h) = range h ∷ []
 ranges (Two h g) = range h ∷ range g ∷ []
 
 -- what an answer says
-abbrev pub said : Answer → Said
-said (Applied n hs a) = applied n (ranges hs) a
-said (Declined hs) = declined (ranges hs)
-said (Refused r) = refused (refusal_number r)
+abbrev pub said : Result Answer Refusal → Said
+said (Ok (Applied n hs a)) = applied n (ranges hs) a
+said (Ok (Declined hs)) = declined (ranges hs)
+said (Err r) = refused (refusal_number r)
+
+-- the numbers of the refusals of a call whose own refusal has the number n
+abbrev pub wider_number : ℕ → WiderRefusal → ℕ
+wider_number n (Shared r) = refusal_number r
+wider_number n Unfit = n
 
 -- what a move says; refusal 10 is its own
-abbrev pub said_moved : Moved → Said
-said_moved MovedNow = done
-said_moved (NotMoved r) = refused (refusal_number r)
-said_moved Unfit = refused 10
+abbrev pub said_moved : Result (Unit {0}) WiderRefusal → Said
+said_moved (Ok _) = done
+said_moved (Err w) = refused (wider_number 10 w)
 
 -- what starting and finishing say
-abbrev pub said_done : Done → Said
-said_done DoneNow = done
-said_done (NotDone r) = refused (refusal_number r)
+abbrev pub said_done : Result (Unit {0}) Refusal → Said
+said_done (Ok _) = done
+said_done (Err r) = refused (refusal_number r)
 
 -- What the run of a lookup says. Ran: how many records there are, and whether any call attached. Stopped, with 7: at
 -- which slot, and how many records there are. Else the number of the refusal.
@@ -86,11 +88,10 @@ pub data SaidRun : Type 0 where
   not_run : (number : ℕ) → SaidRun
 
 -- what a run's answer says; refusal 8 is its own
-abbrev pub said_run : Ran → SaidRun
-said_run (RanToEnd n a) = ran n a
-said_run (RanInto7 i n) = stopped i n
-said_run (NotRun r) = not_run (refusal_number r)
-said_run UnfitRun = not_run 8
+abbrev pub said_run : Result Ran WiderRefusal → SaidRun
+said_run (Ok (RanToEnd n a)) = ran n a
+said_run (Ok (RanInto7 i n)) = stopped i n
+said_run (Err w) = not_run (wider_number 8 w)
 
 -- refused with the number of the first test of a table that holds; where none holds, what follows
 abbrev pub unless : List (Bool × ℕ) → Said → Said
