@@ -1,42 +1,13 @@
--- Laws over plain values: the records of hazards, and what `put` does to the list. Assumes nothing.
+-- Laws over plain values: of the records of hazards, and of a list that records went into. Assumes nothing.
 use mathlib.Core.Path.{◌≡◌, refl, ap, ◌∙◌}
 use mathlib.Core.List.{List, [], ◌∷◌, ◌++◌, map}
 use native.Mathlib.Nat.{not-suc-le-zero, le_of_suc-le-suc, add-zero}
 use native.Mathlib.Omega.{arith}
 use Prim.Native.Nat.{ℕ, suc, ◌+◌, ◌≤◌}
 use lib.ListN.{length, drop, set, length-set}
-use Rattle.answers.specs.Said.{Range, range, range_of}
-use Rattle.answers.specs.declared.HazardKind.{HazardKind}
-use Rattle.answers.specs.declared.HazardKind.TheVariants.{UnsafeToBreak, UnsafeToConcat}
-use Rattle.answers.specs.declared.Hazard.{Hazard}
-use Rattle.records.specs.Records.{kind_number, record_of, records_of, records, set_all}
+use Rattle.answers.specs.Said.{Range}
+use Rattle.records.specs.Records.{record_of, records_of, records, set_all}
 use Rattle.records.specs.declared.HazardRecord.{HazardRecord}
-use Rattle.records.specs.declared.Records.{Records}
-use Rattle.records.specs.declared.Records.TheVariants.{None, One, Two}
-
--- ---- the records of hazards
-abbrev numbered : ℕ → ℕ → ℕ → HazardRecord
-numbered n s e = record { kind = n; start = s; end = e }
-
-of_kind : (k : HazardKind) (s e : ℕ) → numbered (kind_number k) s e ≡ record_of (range_of k s e)
-of_kind UnsafeToBreak s e = refl
-of_kind UnsafeToConcat s e = refl
-
--- the number of a hazard's kind, its start and its end are its record
-pub record_is : (h : Hazard) (n : ℕ) → n ≡ kind_number h.kind → numbered n h.start h.end ≡ record_of (range h)
-record_is h n e = ap (λ (j : ℕ). numbered j h.start h.end) e ∙ of_kind h.kind h.start h.end
-
-pub one_is : {a a' : HazardRecord} → a ≡ a' → One a ≡ One a'
-one_is e = ap One e
-
-pub two_is : {a a' b b' : HazardRecord} → a ≡ a' → b ≡ b' → Two a b ≡ Two a' b'
-two_is {a} {a'} {b} {b'} e f = ap (λ (h : HazardRecord). Two h b) e ∙ ap (λ (h : HazardRecord). Two a' h) f
-
--- one single call has at most two records
-pub few : (hs : Records) → length (records hs) ≤ 2
-few None = omega arith
-few (One a) = omega arith
-few (Two a b) = omega arith
 
 -- of at most two hazards none is lost
 pub records_all : (rs : List Range) → length rs ≤ 2 → records (records_of rs) ≡ map record_of rs
@@ -46,19 +17,6 @@ records_all (a ∷ b ∷ []) h = refl
 records_all (a ∷ b ∷ c ∷ rs) h = absurd (not-suc-le-zero (le_of_suc-le-suc (le_of_suc-le-suc h)))
 
 -- ---- the list after records went into it
-pub put_none : (ys : List HazardRecord) (n : ℕ) → ys ≡ set_all ys n []
-unfolding set_all
-put_none ys n = refl
-
-pub put_one : (ys : List HazardRecord) (n : ℕ) (a : HazardRecord) → set ys n a ≡ set_all ys n (a ∷ [])
-unfolding set_all
-put_one ys n a = refl
-
-pub put_two : (ys : List HazardRecord) (n : ℕ) (a b : HazardRecord)
-    → set (set ys n a) (n + 1) b ≡ set_all ys n (a ∷ b ∷ [])
-unfolding set_all
-put_two ys n a b = refl
-
 pub length_set_all : (ys : List HazardRecord) (n : ℕ) (rs : List HazardRecord) → length (set_all ys n rs) ≡ length ys
 unfolding set_all
 length_set_all ys n [] = refl

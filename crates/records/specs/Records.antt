@@ -4,8 +4,8 @@ use Rattle.answers.specs.Said.{Range, unsafe_to_break, unsafe_to_concat}
 use Rattle.answers.specs.declared.HazardKind.{HazardKind}
 use Rattle.answers.specs.declared.HazardKind.TheVariants.{UnsafeToBreak, UnsafeToConcat}
 use Rattle.records.specs.declared.HazardRecord.{HazardRecord}
-use Rattle.records.specs.declared.Records.{Records}
-use Rattle.records.specs.declared.Records.TheVariants.{None, One, Two}
+use Rattle.answers.specs.declared.UpToTwo.{UpToTwo}
+use Rattle.answers.specs.declared.UpToTwo.TheVariants.{None, One, Two}
 
 -- the number of each kind
 abbrev pub kind_number : HazardKind → ℕ
@@ -18,13 +18,13 @@ record_of (unsafe_to_break s e) = record { kind = kind_number UnsafeToBreak; sta
 record_of (unsafe_to_concat s e) = record { kind = kind_number UnsafeToConcat; start = s; end = e }
 
 -- the hazards of one single call as records, in order; it has at most two, and of more these are the first two
-abbrev pub records_of : List Range → Records
+abbrev pub records_of : List Range → UpToTwo HazardRecord
 records_of [] = None
 records_of (g ∷ []) = One (record_of g)
 records_of (g ∷ h ∷ hs) = Two (record_of g) (record_of h)
 
 -- the records of one single call as a list, in order
-abbrev pub records : Records → List HazardRecord
+abbrev pub records : UpToTwo HazardRecord → List HazardRecord
 records None = []
 records (One a) = a ∷ []
 records (Two a b) = a ∷ b ∷ []

@@ -3,14 +3,14 @@
 
 ghost use Rattle.std.specs.Prelude.{◌≡◌, ◌<◌, ◌≤◌, ◌+◌, length, set};
 ghost use Rattle.answers.specs.Said.{range, ranges};
-ghost use Rattle.records.specs.Records.{kind_number, record_of, records_of, records, set_all};
+ghost use Rattle.records.specs.Records.{record_of, records_of, records, set_all};
 
-use answers::{Hazard, HazardKind, Hazards};
+use answers::{Hazard, Hazards, UpToTwo};
 
 // A record of the lent list, for library and C alike: 24 bytes on 64-bit, kind at 0, start at 8, end at 16.
 // specs/Records.antt has the number of each kind.
 #[repr(C)]
-#[derive(Clone, Copy)]
+#[derive(Clone, Copy, PartialEq, Eq)]
 pub struct HazardRecord {
     pub kind: u32,
     pub start: usize,
@@ -18,32 +18,18 @@ pub struct HazardRecord {
 }
 
 // The records of one single call, in order.
-#[derive(Clone, Copy)]
-pub enum Records {
-    None,
-    One(HazardRecord),
-    Two(HazardRecord, HazardRecord),
-}
-
-// The number of a kind.
-fn kind_number(k: HazardKind) -> u32
-    ensures { result ≡ kind_number k }
-{
-    match k {
-        HazardKind::UnsafeToBreak => 1,
-        HazardKind::UnsafeToConcat => 2,
-    }
-}
+pub type Records = UpToTwo<HazardRecord>;
 
 // A hazard as a record.
-pub fn record_of(h: Hazard) -> HazardRecord
-    ensures { result ≡ record_of (range h) }
-{
-    let k = h.kind;
-    HazardRecord {
-        kind: kind_number(k),
-        start: h.start,
-        end: h.end,
+impl From<Hazard> for HazardRecord {
+    ghost from_gives = { λ h r. r ≡ record_of (range h) };
+
+    fn from(h: Hazard) -> HazardRecord {
+        HazardRecord {
+            kind: h.kind as u32,
+            start: h.start,
+            end: h.end,
+        }
     }
 }
 
@@ -53,12 +39,13 @@ pub fn records_of(hs: Hazards) -> Records
 {
     match hs {
         Hazards::None => Records::None,
-        Hazards::One(a) => Records::One(record_of(a)),
-        Hazards::Two(a, b) => Records::Two(record_of(a), record_of(b)),
+        Hazards::One(a) => Records::One(a.into()),
+        Hazards::Two(a, b) => Records::Two(a.into(), b.into()),
     }
 }
 
 // Stores a record at a place of the list, and says where the next one goes.
+// An iterator over the list would hide the place, which is the count of records that a run answers.
 pub fn push(list: &mut [HazardRecord], at: usize, record: HazardRecord) -> usize
     requires { at < length list.old }
     ensures { (result ≡ at + 1) × (list.new ≡ set list.old at «record») }
@@ -68,20 +55,17 @@ pub fn push(list: &mut [HazardRecord], at: usize, record: HazardRecord) -> usize
 }
 
 // Stores the records of one single call from a place of the list on, in order, and says where the next one goes.
+#[tactic(auto, unfolding(crate::specs::Records::set_all))]
 pub fn put(list: &mut [HazardRecord], at: usize, rs: Records) -> usize
     requires { at + length (records rs) ≤ length list.old }
     ensures { (result ≡ at + length (records rs)) × (list.new ≡ set_all list.old at (records rs)) }
 {
     match rs {
-        Records::None => {
-            return at;
-        }
-        Records::One(a) => {
-            return push(list, at, a);
-        }
+        Records::None => at,
+        Records::One(a) => push(list, at, a),
         Records::Two(a, b) => {
-            let k = push(list, at, a);
-            return push(list, k, b);
+            let next = push(list, at, a);
+            push(list, next, b)
         }
     }
 }
