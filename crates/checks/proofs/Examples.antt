@@ -16,7 +16,8 @@ use Rattle.answers.specs.Outcome.{answer_to}
 use Rattle.answers.specs.Said.{Said, done, refused}
 use Rattle.answers.specs.declared.Neighbour.TheVariants.{Named, Missing}
 use Rattle.checks.specs.Ranges.{bad_slot, bad_slots, some}
-use Rattle.checks.specs.Arguments.{applying, bad_scale}
+use Rattle.ints.specs.Scale.{bad_scale}
+use Rattle.checks.specs.Arguments.{applying}
 use Rattle.checks.specs.Neighbours.{bad_previous, bad_second}
 
 -- is a slot with one byte at n, all else 0, out of range?

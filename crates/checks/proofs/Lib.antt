@@ -2,5 +2,4 @@ pub mod RangeLaws
 pub mod SearchLaws
 pub mod TestLaws
 pub mod CheckLaws
-pub mod NeighbourLaws
 pub mod Examples

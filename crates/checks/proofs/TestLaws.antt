@@ -1,17 +1,12 @@
 -- What is known once the tests of a line's slots do not hold. Assumes nothing.
 use mathlib.Core.Path.{◌≡◌}
-use mathlib.Core.Bool.{Bool, false, ◌||◌}
-use mathlib.Core.List.{List, [], ◌∷◌}
+use mathlib.Core.Bool.{false, ◌||◌}
 use Prim.Native.Nat.{ℕ}
 use borrow.Author.Tests.{ltb-false}
 use lib.Dec.{ltb}
 use Rattle.ints.specs.code.Scale.{InScale}
 use Rattle.ints.proofs.TestLaws.{or_false}
-use Rattle.slots.specs.Slot.{Slot}
-use Rattle.answers.specs.Said.{done, unless}
-use Rattle.answers.proofs.TestLaws.{clear_first}
-use Rattle.checks.specs.Ranges.{bad_slots}
-use Rattle.checks.specs.Arguments.{bad_scale, slot_tests}
+use Rattle.ints.specs.Scale.{bad_scale}
 
 -- the scale is in its range
 pub in_scale : (s u : ℕ) → bad_scale s u ≡ false → InScale s u
@@ -20,9 +15,3 @@ in_scale s u e =
     let b = or_false (ltb 32768 s) (ltb u 16 || ltb 16384 u) a.1 in
     let c = or_false (ltb u 16) (ltb 16384 u) b.1 in
     record { s_low = ltb-false s 1 a.0; s_high = ltb-false 32768 s b.0; u_low = ltb-false u 16 c.0; u_high = ltb-false 16384 u c.1 }
-
--- the number is in its range
-pub number_good : (ss : List Slot) (direction : ℕ) (bad_number : Bool) → unless (slot_tests ss direction bad_number) done ≡ done → bad_number ≡ false
-number_good ss direction bad_number e =
-    let two = clear_first (ltb 3 direction) 2 ((bad_number, 3) ∷ (bad_slots ss, 4) ∷ []) e in
-    (clear_first bad_number 3 ((bad_slots ss, 4) ∷ []) two.1).0

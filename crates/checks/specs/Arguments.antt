@@ -1,17 +1,13 @@
 -- The tests for which the calls refuse, each with its number, in order: the first that holds is the lowest. Assumes
 -- nothing.
-use Rattle.std.specs.Prelude.{Bool, ◌||◌, List, [], ◌∷◌, ◌++◌, ℕ, ltb}
-use Rattle.ints.specs.Scale.{least_upem, most_s, most_upem}
+use Rattle.std.specs.Prelude.{Bool, List, [], ◌∷◌, ◌++◌, ℕ, ltb}
+use Rattle.ints.specs.Scale.{bad_scale}
 use Rattle.slots.specs.Axis.{direction_of}
 use Rattle.slots.specs.Slot.{Slot}
 use Rattle.slots.specs.declared.axis.Direction.{Direction}
 use Rattle.answers.specs.Outcome.{Call}
 use Rattle.answers.specs.Said.{unless}
 use Rattle.checks.specs.Ranges.{bad_slots}
-
--- s or u not in its range
-abbrev pub bad_scale : ℕ → ℕ → Bool
-bad_scale s u = ltb s 1 || (ltb most_s s || (ltb u least_upem || ltb most_upem u))
 
 -- refusals 2 to 4: the direction, a number out of its range, a slot out of range
 abbrev pub slot_tests : List Slot → ℕ → Bool → List (Bool × ℕ)

@@ -1,8 +1,9 @@
 // What refusal 5 asks of an index and of the neighbour that the caller names, in a line of n slots.
-ghost use Rattle.std.specs.Prelude.{◌≡◌};
+ghost use Rattle.std.specs.Prelude.{◌≡◌, Ok, Err, if◌then◌else◌};
+ghost use Rattle.answers.specs.declared.Refusal.TheVariants.{Index};
 ghost use Rattle.checks.specs.Neighbours.{bad_after, bad_before, bad_place};
 
-use answers::Neighbour;
+use answers::{Neighbour, Refusal};
 
 // What a call is made on beside the slot at its index.
 #[derive(Clone, Copy)]
@@ -19,13 +20,8 @@ fn is_bad_after(n: usize, index: usize, second: Neighbour) -> bool
     ensures { result ≡ bad_after n index second }
 {
     match second {
-        Neighbour::Named(j) => {
-            if j <= index {
-                return true;
-            }
-            return n <= j;
-        }
-        Neighbour::Missing(e) => return n < e,
+        Neighbour::Named(j) => j <= index || n <= j,
+        Neighbour::Missing(e) => n < e,
     }
 }
 
@@ -34,8 +30,8 @@ fn is_bad_before(n: usize, index: usize, previous: Neighbour) -> bool
     ensures { result ≡ bad_before n index previous }
 {
     match previous {
-        Neighbour::Named(i) => return index <= i,
-        Neighbour::Missing(f) => return n < f,
+        Neighbour::Named(i) => index <= i,
+        Neighbour::Missing(f) => n < f,
     }
 }
 
@@ -43,12 +39,20 @@ fn is_bad_before(n: usize, index: usize, previous: Neighbour) -> bool
 pub fn is_bad_place(n: usize, index: usize, beside: Beside) -> bool
     ensures { result ≡ bad_place n index beside }
 {
-    if n <= index {
-        return true;
+    n <= index
+        || match beside {
+            Beside::Nothing => false,
+            Beside::Second(second) => is_bad_after(n, index, second),
+            Beside::Previous(previous) => is_bad_before(n, index, previous),
+        }
+}
+
+// Refusal 5.
+pub fn check_place(n: usize, index: usize, beside: Beside) -> Result<(), Refusal>
+    ensures { result ≡ (if bad_place n index beside then Err Index else Ok tt) }
+{
+    if is_bad_place(n, index, beside) {
+        return Err(Refusal::Index);
     }
-    match beside {
-        Beside::Nothing => return false,
-        Beside::Second(second) => return is_bad_after(n, index, second),
-        Beside::Previous(previous) => return is_bad_before(n, index, previous),
-    }
+    Ok(())
 }

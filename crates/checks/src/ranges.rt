@@ -6,7 +6,6 @@ ghost use Rattle.slots.specs.Line.{shape_with, slots};
 ghost use Rattle.checks.specs.code.Ranges.{bad_fields};
 ghost use Rattle.checks.specs.Ranges.{bad_slot, bad_slots};
 
-use ints::big_endian::wide;
 use slots::layout::{ATTACH_TYPE, CLUSTERED_SIZE, COMPONENT, FLAGS, LIGATURE_ID, SLOT_SIZE};
 use slots::shape::Shape;
 
@@ -24,39 +23,31 @@ pub fn has_bad_slot(line: &[u8], shape: Shape) -> bool
     requires { Fits shape line.now × (known shape.size ≡ true) }
     ensures { result ≡ bad_slots (slots shape line.now) }
 {
-    let n = shape.count;
-    let size = shape.size;
-    if size == SLOT_SIZE {
-        return is_bad(put_together(line, SLOT_SIZE, n));
+    if shape.size == SLOT_SIZE {
+        return is_bad(put_together::<SLOT_SIZE>(line, shape.count));
     }
-    is_bad(put_together(line, CLUSTERED_SIZE, n))
+    is_bad(put_together::<CLUSTERED_SIZE>(line, shape.count))
 }
 
 // Is a ligature id, a component or a flag out of range, of the slots whose small fields were put together?
 fn is_bad(all: u32) -> bool
     ensures { result ≡ bad_fields all }
 {
-    if all % 256 > MOST_LIGATURE_ID {
-        return true;
-    }
-    if all / 256 % 256 > MOST_COMPONENT {
-        return true;
-    }
-    all / 65536 % 256 > MOST_FLAGS
+    all % 256 > MOST_LIGATURE_ID
+        || all / 256 % 256 > MOST_COMPONENT
+        || all / 65536 % 256 > MOST_FLAGS
 }
 
-// The small fields of n slots put together bit by bit. From the last slot down, since that loop is unrolled.
-fn put_together(line: &[u8], size: usize, n: usize) -> u32
-    requires { Fits (shape_with size n) line.now }
-    ensures { bad_fields result ≡ bad_slots (slots (shape_with size n) line.now) }
+// The small fields of n slots put together bit by bit. From the last slot down, since that loop is unrolled. A fold over
+// `as_chunks` would ask for a SIZE below 2^63, which this contract doesn't know.
+fn put_together<const SIZE: usize>(line: &[u8], n: usize) -> u32
+    requires { Fits (shape_with SIZE n) line.now }
+    ensures { bad_fields result ≡ bad_slots (slots (shape_with SIZE n) line.now) }
 {
     let mut all = 0;
-    let mut i = n;
-    while 0 < i {
-        i -= 1;
-        let a = i * size;
-        let b = a + size;
-        all = small_fields(&line[a..b]) | all;
+    for i in (0..n).rev() {
+        let a = i * SIZE;
+        all |= small_fields(&line[a..a + SIZE]);
     }
     all
 }
@@ -67,8 +58,10 @@ fn small_fields(slot: &[u8]) -> u32
     requires { slot_size ≤ length slot.now }
     ensures { bad_fields result ≡ bad_slot (slot_of slot.now) }
 {
-    wide(slot[LIGATURE_ID])
-        + wide(slot[COMPONENT]) * 256
-        + wide(slot[FLAGS]) * 65536
-        + wide(slot[ATTACH_TYPE]) * 16777216
+    u32::from_le_bytes([
+        slot[LIGATURE_ID],
+        slot[COMPONENT],
+        slot[FLAGS],
+        slot[ATTACH_TYPE],
+    ])
 }

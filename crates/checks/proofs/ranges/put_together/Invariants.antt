@@ -1,6 +1,5 @@
 -- The bits together are those of the slots from i up. Assumes nothing.
 use mathlib.Core.Path.{◌≡◌}
-use Prim.Native.Nat.{◌≤◌}
 use lib.ListN.{drop}
 use Rattle.slots.specs.Line.{shape_with, slots}
 use Rattle.checks.specs.code.Ranges.{bad_fields}
@@ -8,7 +7,4 @@ use Rattle.checks.specs.Ranges.{bad_slot, some}
 use Rattle.checks.proofs.ranges.put_together.Given as goal
 
 abbrev pub invariant-loop-i : goal.invariant-loop-i
-invariant-loop-i l = (l.i ≤ l.n) × (bad_fields l.all ≡ some bad_slot (drop l.i (slots (shape_with l.size l.n) l.line)))
-
-abbrev pub decreases-loop-i : goal.decreases-loop-i
-decreases-loop-i l = l.i
+invariant-loop-i g l = bad_fields l.all ≡ some bad_slot (drop l.i (slots (shape_with g.row.SIZE l.n) l.line))

@@ -1,4 +1,6 @@
 -- Four bytes are the digits of their number. Assumes nothing.
+use Prim.Native.Nat.{ℕ}
+use lib.ListN.{get_or}
 use Rattle.slots.specs.Slot.{slot_of}
 use Rattle.checks.proofs.RangeLaws.{bytes_out}
 use Rattle.checks.proofs.ranges.small_fields.Goals as goal
@@ -6,8 +8,6 @@ use Rattle.checks.proofs.ranges.small_fields.Goals as goal
 pub returns : goal.returns
 unfolding slot_of
 returns c =
-    let third = c.wide-3 in
-    let second = c.wide-2 in
-    let first = c.wide in
-    rw (← first.ensures.0, ← second.ensures.0, ← third.ensures.0)
-    (bytes_out first.result second.result third.result c.wide-4.result first.ensures.1 second.ensures.1 third.ensures.1)
+    let byte : ℕ → ℕ = λ k. get_or c.args.slot.now k 0 in
+    let known = c.type_inv.slot in
+    rw c.from_le_bytes.ensures (bytes_out (byte 2) (byte 3) (byte 4) (byte 5) (known 2).fits (known 3).fits (known 4).fits)
