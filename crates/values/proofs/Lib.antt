@@ -1,4 +1,3 @@
 pub mod FormatLaws
-pub mod FieldEffectLaws
 pub mod ValueLaws
 pub mod Examples

@@ -1,18 +1,18 @@
 -- Laws of applying a record: a field that is absent, skipped or applied, one field more, fields passed over, and a record cut, whole or without fields. Assumes nothing.
 use mathlib.Core.Path.{◌≡◌, refl, sym, ap, subst, ◌∙◌}
-use mathlib.Core.Bool.{Bool, true, false, not, ◌||◌}
+use mathlib.Core.Bool.{Bool, true, false, not, or-false, ◌||◌}
 use mathlib.Core.List.{List}
-use Prim.Native.Nat.{ℕ, zero, suc, ◌+◌, ◌-◌, ◌/◌, ◌^◌, ◌≤◌, ◌<◌}
+use Prim.Native.Nat.{ℕ, zero, suc, ◌+◌, ◌-◌, ◌/◌, ◌%◌, ◌^◌, ◌≤◌, ◌<◌}
 use native.Mathlib.Decide.{dec_lt}
 use native.Mathlib.Nat.{add-zero}
 use native.Mathlib.Numerals.{add-one}
 use native.Mathlib.Omega.{arith}
 use borrow.Author.Tests.{eq-eqb, ne_eqb, lt-ltb, le-ltb}
-use lib.Count.{count_trailing_zeros, trailing_of_zero, under}
 use lib.Dec.{eqb}
 use lib.IntN.{ℤ, nat_abs}
 use lib.ListN.{length, set}
 use lib.Pow.{shr-shr}
+use Rattle.std.proofs.lemmas.Nat.Bits.{bit_at-zero}
 use Rattle.ints.specs.Scale.{scaled}
 use Rattle.ints.specs.Signed.{signed}
 use Rattle.ints.specs.code.Signed.{val}
@@ -25,9 +25,8 @@ use Rattle.slots.specs.declared.axis.Axis.{Axis}
 use Rattle.slots.specs.declared.axis.Direction.{Direction}
 use Rattle.slots.specs.declared.fields.Measure.{Measure}
 use Rattle.slots.proofs.LineLaws.{update_both, update_none}
-use Rattle.values.specs.code.Codes.{effect_by}
 use Rattle.values.specs.Format.{bit_of, field_value, record_length, set_below}
-use Rattle.values.specs.FieldEffect.{applies, skipped, with_effect, effect_of}
+use Rattle.values.specs.FieldEffect.{FieldEffect, skipped, added, subtracted, applies, with_effect, effect_of}
 use Rattle.values.specs.Value.{field_works, fields_work, valued, with_field, with_fields, worked}
 
 -- ---- one slot of a line
@@ -36,10 +35,6 @@ pub put_measure : (op : ℤ → ℤ → ℤ) (m : Measure) (a : Axis) (i : ℕ) 
     next ≡ update i (with_measure m a new) ss → next ≡ update i (λ s. with_measure m a (op (measure m a s) z) s) ss
 unfolding update
 put_measure op m a i z old new ss next e g h = h ∙ ap (λ (x : ℤ). set ss i (with_measure m a x (slot ss i))) (g ∙ ap (λ (x : ℤ). op x z) e)
-
--- what the code k touches, where the entry t is k
-pub by_code : (k t i : ℕ) (z : ℤ) (ss next : List Slot) → t ≡ k → next ≡ update i (with_effect (effect_by k) z) ss → next ≡ update i (with_effect (effect_by t) z) ss
-by_code k t i z ss next e h = rw e h
 
 -- ---- one field
 -- the bits are 0 where the integer is
@@ -54,14 +49,11 @@ zero_bits v h = go (dec_lt 0 v)
     go (yes l) = ne_eqb v 0 (λ e. omega arith) ∙ sym (ne_eqb (nat_abs (val v)) 0 (nonzero l))
     go (no n) = let e : v ≡ 0 = omega arith in rw e
 
--- a code from 1 to 4 is no skipping
-applies_by : (t : ℕ) → (t ≡ 0 → ⊥) → t < 5 → applies (effect_by t) ≡ true
-applies_by zero ne h = absurd (ne refl)
-applies_by (suc zero) ne h = refl
-applies_by (suc (suc zero)) ne h = refl
-applies_by (suc (suc (suc zero))) ne h = refl
-applies_by (suc (suc (suc (suc zero)))) ne h = refl
-applies_by (suc (suc (suc (suc (suc t))))) ne h = absurd (omega arith)
+-- what doesn't apply is skipped
+unapplied : (e : FieldEffect) → applies e ≡ false → e ≡ skipped
+unapplied skipped h = refl
+unapplied (added m a) h = cc
+unapplied (subtracted m a) h = cc
 
 module _ (s u : ℕ) (d : Direction) (r : List ℕ) (f b i : ℕ) (ss : List Slot) where
   -- the line next is ss with field b applied to slot i, and w says whether it worked
@@ -75,33 +67,25 @@ module _ (s u : ℕ) (d : Direction) (r : List ℕ) (f b i : ℕ) (ss : List Slo
       let e = ne_eqb (bit_of f b) 1 ne in
       (simp e (sym (update_none i ss)), simp e)
 
-  pub field_skipped : bit_of f b ≡ 1 → skipped ≡ effect_of d b → OneField ss false
+  pub field_skipped : {e : FieldEffect} → bit_of f b ≡ 1 → e ≡ effect_of d b → applies e ≡ false → OneField ss false
   unfolding update
-  field_skipped h t =
-      let e = eq-eqb (bit_of f b) 1 h in
-      (simp (e, ← t) (sym (update_none i ss)), simp (e, ← t))
-
-  -- a field that applies: t is the table's code, v the value's bits, and z those of the scaled value
-  pub field_applied : (t v z : ℕ) (next : List Slot) → bit_of f b ≡ 1 → effect_by t ≡ effect_of d b → (t ≡ 0 → ⊥) → t < 5 → v < 4294967296 →
-      val v ≡ field_value r f b → val z ≡ scaled (val v) s u → next ≡ update i (with_effect (effect_by t) (val z)) ss → OneField next (not (eqb v 0))
-  unfolding update
-  field_applied t v z next h e ne l k p q g =
+  field_skipped h t n =
       let o = eq-eqb (bit_of f b) 1 h in
-      let y : applies (effect_of d b) ≡ true = ap applies (sym e) ∙ applies_by t ne l in (
-        simp (o, ← e, ← p, ← q) g,
+      let k : effect_of d b ≡ skipped = unapplied (effect_of d b) (ap applies (sym t) ∙ n) in
+      (simp (o, k) (sym (update_none i ss)), simp (o, k))
+
+  -- a field that applies: v is the value's bits, and z those of the scaled value
+  pub field_applied : {e : FieldEffect} (v z : ℕ) {next : List Slot} → bit_of f b ≡ 1 → e ≡ effect_of d b → applies e ≡ true → v < 4294967296 →
+      val v ≡ field_value r f b → val z ≡ scaled (val v) s u → next ≡ update i (with_effect e (val z)) ss → OneField next (not (eqb v 0))
+  unfolding update
+  field_applied v z h t n k p q g =
+      let o = eq-eqb (bit_of f b) 1 h in
+      let y : applies (effect_of d b) ≡ true = ap applies (sym t) ∙ n in (
+        simp (o, ← t, ← p, ← q) g,
         simp (o, y) (ap not (zero_bits v k ∙ ap (λ (x : ℤ). eqb (nat_abs x) 0) p)),
       )
 
 -- ---- the fields of a record
--- y is set where x holds, and else stays w
-pub or_set : (w x y : Bool) → x ≡ true → y ≡ true → y ≡ w || x
-or_set true x y e q = q
-or_set false x y e q = q ∙ sym e
-
-pub or_kept : (w x y : Bool) → x ≡ false → y ≡ w → y ≡ w || x
-or_kept true x y e q = q
-or_kept false x y e q = q ∙ sym e
-
 module _ (s u : ℕ) (d : Direction) (r : List ℕ) (f i : ℕ) (ss : List Slot) where
   -- the line next is ss with the first n fields applied to slot i, and w says whether one of them worked
   abbrev pub Fields : ℕ → List Slot → Bool → Type 0
@@ -113,36 +97,29 @@ module _ (s u : ℕ) (d : Direction) (r : List ℕ) (f i : ℕ) (ss : List Slot)
   no_fields = (sym (update_none i ss), refl)
 
   -- one field more
-  pub more_fields : (n : ℕ) (now next : List Slot) (w x y : Bool) → i < length ss → Fields n now w → OneField s u d r f n i now next x → y ≡ w || x → Fields (n + 1) next y
+  pub more_fields : (n : ℕ) (now next : List Slot) (w x : Bool) → i < length ss → Fields n now w → OneField s u d r f n i now next x → Fields (n + 1) next (w || x)
   unfolding with_fields fields_work
-  more_fields n now next w x y h e g o = rw add-one (
+  more_fields n now next w x h e g = rw add-one (
     update_both i (with_fields s u d r f n) ss (with_field s u d r f n) h e.0 g.0,
-    o ∙ rw (e.1, g.1),
+    rw (e.1, g.1),
   )
 
   -- ---- fields that are not there
-  -- field n is there, or the fields from the next on decide
-  absent_at : (n t b : ℕ) (next : List Slot) (w : Bool) → bit_of f n ≡ b → Fields n next w → (bit_of f n ≡ 0 → Fields (n + 1 + t) next w) → Fields (n + under b t) next w
-  absent_at n t zero next w e g h =
-      let q : n + 1 + t ≡ n + suc t = omega arith in
-      subst (λ (m : ℕ). Fields m next w) q (h e)
-  absent_at n t (suc b) next w e g h = subst (λ (m : ℕ). Fields m next w) (sym (add-zero n)) g
-
   -- fields whose bits are clear are passed over
-  pub absent_fields : (k n : ℕ) (next : List Slot) (w : Bool) → i < length ss → Fields n next w → Fields (n + count_trailing_zeros k (f / 2 ^ n)) next w
-  unfolding count_trailing_zeros
-  absent_fields zero n next w h e = subst (λ (m : ℕ). Fields m next w) (sym (add-zero n)) e
-  absent_fields (suc k) n next w h e =
-      absent_at n (count_trailing_zeros k (f / 2 ^ n / 2)) (bit_of f n) next w refl e (λ z.
-      subst (λ (m : ℕ). Fields (n + 1 + count_trailing_zeros k m) next w) (sym (shr-shr f n 1)) (absent_fields k (n + 1) next w h
-      (more_fields n next next w false w h e (field_absent s u d r f n i next (λ o. omega (arith, z, o))) (or_kept w false w refl refl))))
+  pub absent_fields : (k n : ℕ) (next : List Slot) (w : Bool) → i < length ss → ((j : ℕ) → j < k → bit_of f (n + j) ≡ 0) → Fields n next w → Fields (n + k) next w
+  absent_fields zero n next w h z e = subst (λ (m : ℕ). Fields m next w) (sym (add-zero n)) e
+  absent_fields (suc k) n next w h z e =
+      let q : n + k + 1 ≡ n + suc k = omega arith in
+      let before = absent_fields k n next w h (λ j l. z j (omega arith)) e in
+      subst (λ (m : ℕ). Fields m next w) q (subst (λ (v : Bool). Fields (n + k + 1) next v) (or-false w)
+      (more_fields (n + k) next next w false h before (field_absent s u d r f (n + k) i next (λ o. omega (arith, z k (omega arith), o)))))
 
   -- none is left where no bit is
   pub all_fields : (n : ℕ) (next : List Slot) (w : Bool) → i < length ss → n ≤ 8 → f / 2 ^ n ≡ 0 → Fields n next w → Fields 8 next w
   all_fields n next w h l z e =
-      let t : count_trailing_zeros (8 - n) (f / 2 ^ n) ≡ 8 - n = ap (count_trailing_zeros (8 - n)) z ∙ trailing_of_zero (8 - n) in
-      let q : n + count_trailing_zeros (8 - n) (f / 2 ^ n) ≡ 8 = omega (arith, t, l) in
-      subst (λ (m : ℕ). Fields m next w) q (absent_fields (8 - n) n next w h e)
+      let q : n + (8 - n) ≡ 8 = omega arith in
+      let none = λ (j : ℕ) (m : j < 8 - n). ap (λ (x : ℕ). x % 2) (sym (shr-shr f n j)) ∙ ap (λ (x : ℕ). x / 2 ^ j % 2) z ∙ bit_at-zero j in
+      subst (λ (m : ℕ). Fields m next w) q (absent_fields (8 - n) n next w h none e)
 
   -- ---- the record
   -- the line next is ss with the record applied to slot i, and w says whether it worked
@@ -168,7 +145,7 @@ module _ (s u : ℕ) (d : Direction) (r : List ℕ) (f i : ℕ) (ss : List Slot)
   unset_fields zero h e = no_fields
   unset_fields (suc n) h e =
       subst (λ (m : ℕ). Fields m ss false) (add-one n)
-      (more_fields n ss ss false false false h (unset_fields n h (omega arith)) (field_absent s u d r f n i ss (λ o. omega arith)) refl)
+      (more_fields n ss ss false false h (unset_fields n h (omega arith)) (field_absent s u d r f n i ss (λ o. omega arith)))
 
   -- an empty record is cut, or its format has no bit
   pub record_empty : i < length ss → length r ≡ 0 → Whole ss false

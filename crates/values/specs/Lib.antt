@@ -1,4 +1,4 @@
 pub mod Format  -- ValueFormat and ValueRecord
 pub mod FieldEffect  -- what a field does in a direction
 pub mod Value  -- applying a record
-pub mod code  -- what code's numbers stand for
+pub mod code  -- what code's values stand for

@@ -36,8 +36,5 @@ pub fn record_at<'a>(t: &'a [u8], at: usize, format: u32) -> &'a [u8]
     ensures { (result.now ≡ record_at t.now at format) × WholeOrEmpty result.now format }
 {
     let end = at + record_len(format);
-    if end <= t.len() {
-        return &t[at..end];
-    }
-    &t[..0]
+    t.get(at..end).unwrap_or(&[])
 }

@@ -1,23 +1,10 @@
--- The numbers that stand in the table of 32 for what a field does. Assumes nothing.
-use Rattle.std.specs.Prelude.{ℕ, eqb, if◌then◌else◌}
-use Rattle.slots.specs.declared.axis.Axis.TheVariants.{X, Y}
-use Rattle.slots.specs.declared.axis.Direction.{Direction}
-use Rattle.slots.specs.declared.axis.Direction.TheVariants.{LeftToRight, RightToLeft, TopToBottom, BottomToTop}
-use Rattle.slots.specs.declared.fields.Measure.TheVariants.{Advance, Offset}
+-- What stands in the table of 32 for what a field does. Assumes nothing.
 use Rattle.values.specs.FieldEffect.{FieldEffect, skipped, added, subtracted}
+use Rattle.values.specs.declared.field_effect.Effect.{Effect}
+use Rattle.values.specs.declared.field_effect.Effect.TheVariants.{Skip, Add, Subtract}
 
--- 0 skipped; added to x offset 1, y offset 2, x advance 3; subtracted from y advance 4
-abbrev pub effect_by : ℕ → FieldEffect
-effect_by n =
-    if eqb n 1 then added Offset X
-    else (if eqb n 2 then added Offset Y
-    else (if eqb n 3 then added Advance X
-    else (if eqb n 4 then subtracted Advance Y
-    else skipped)))
-
--- where a direction's row of eight starts
-abbrev pub effect_row : Direction → ℕ
-effect_row LeftToRight = 0
-effect_row RightToLeft = 8
-effect_row TopToBottom = 16
-effect_row BottomToTop = 24
+-- what code's effect stands for
+abbrev pub effect_by : Effect → FieldEffect
+effect_by Skip = skipped
+effect_by (Add m a) = added m a
+effect_by (Subtract m a) = subtracted m a

@@ -1,11 +1,7 @@
 -- Above the clear bits stands a set one. Assumes nothing.
 use mathlib.Core.Path.{refl}
-use native.Mathlib.Omega.{arith}
 use Rattle.values.proofs.FormatLaws.{next_set}
 use Rattle.values.proofs.format.next_field.Goals as goal
-
-pub overflow_add-result : goal.overflow_add-result
-overflow_add-result c = omega (arith, (next_set c.args.format c.args.field c.requires.0 c.requires.2).1)
 
 pub returns : goal.returns
 returns c =

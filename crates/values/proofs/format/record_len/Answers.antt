@@ -2,16 +2,10 @@
 use mathlib.Core.Path.{◌≡◌, ap}
 use Prim.Native.Nat.{ℕ, ◌*◌, ◌%◌, ◌^◌}
 use native.Mathlib.Omega.{arith}
-use lib.Count.{ones, ones-le}
+use lib.Count.{ones}
 use Rattle.values.specs.Format.{record_length}
 use Rattle.values.proofs.FormatLaws.{length_small, ones_below}
 use Rattle.values.proofs.format.record_len.Goals as goal
-
-pub overflow_cast-result-2 : goal.overflow_cast-result-2
-overflow_cast-result-2 c = omega (arith, ones-le 8 c.args.format c.requires)
-
-pub overflow_mul-result : goal.overflow_mul-result
-overflow_mul-result c = omega (arith, ones-le 8 c.args.format c.requires)
 
 pub returns : goal.returns
 returns c =

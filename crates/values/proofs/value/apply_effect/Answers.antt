@@ -1,32 +1,21 @@
--- Each code has its measure. Assumes nothing.
-use native.Mathlib.Omega.{arith}
-use Rattle.ints.specs.Saturating.{sat_sub}
-use Rattle.ints.specs.code.Signed.{val}
-use Rattle.slots.specs.Line.{slots}
-use Rattle.slots.specs.declared.axis.Axis.TheVariants.{Y}
-use Rattle.slots.specs.declared.fields.Measure.TheVariants.{Advance}
-use Rattle.values.proofs.ValueLaws.{by_code, put_measure}
+-- Each effect has its measure. Assumes nothing.
+use mathlib.Core.Path.{sym}
+use Rattle.ints.specs.Saturating.{sat_add, sat_sub}
+use Rattle.slots.specs.Line.{slots, update}
+use Rattle.slots.proofs.LineLaws.{update_none}
+use Rattle.values.proofs.ValueLaws.{put_measure}
 use Rattle.values.proofs.value.apply_effect.Goals as goal
 
-pub returns-then-t-eq-ADD_X_OFFSET : goal.returns-then-t-eq-ADD_X_OFFSET
-returns-then-t-eq-ADD_X_OFFSET c =
+pub returns-in-Skip : goal.returns-in-Skip
+unfolding update
+returns-in-Skip c =
     let a = c.args in
-    by_code 1 a.t a.i (val a.v) (slots a.shape a.line.now) _ c.if-t-eq-ADD_X_OFFSET.true c.add_to.ensures
+    rw c.in-Skip.is (sym (update_none a.i (slots a.shape a.line.now)))
 
-pub returns-then-t-eq-ADD_Y_OFFSET : goal.returns-then-t-eq-ADD_Y_OFFSET
-returns-then-t-eq-ADD_Y_OFFSET c =
-    let a = c.args in
-    by_code 2 a.t a.i (val a.v) (slots a.shape a.line.now) _ c.if-t-eq-ADD_Y_OFFSET.true c.add_to-then-t-eq-ADD_Y_OFFSET.ensures
+pub returns-in-Add : goal.returns-in-Add
+returns-in-Add c =
+    rw c.in-Add.is (put_measure sat_add _ _ _ _ _ _ _ _ c.get-old.ensures c.sat_add.ensures c.set.ensures)
 
-pub returns-then-t-eq-ADD_X_ADVANCE : goal.returns-then-t-eq-ADD_X_ADVANCE
-returns-then-t-eq-ADD_X_ADVANCE c =
-    let a = c.args in
-    by_code 3 a.t a.i (val a.v) (slots a.shape a.line.now) _ c.if-t-eq-ADD_X_ADVANCE.true c.add_to-then-t-eq-ADD_X_ADVANCE.ensures
-
-pub returns : goal.returns
-returns c =
-    let a = c.args in
-    let ss = slots a.shape a.line.now in
-    let call = c in
-    by_code 4 a.t a.i (val a.v) ss _ (omega arith)
-    (put_measure sat_sub Advance Y a.i (val a.v) _ _ ss _ call.get-old.ensures call.sat_sub.ensures call.set.ensures)
+pub returns-in-Subtract : goal.returns-in-Subtract
+returns-in-Subtract c =
+    rw c.in-Subtract.is (put_measure sat_sub _ _ _ _ _ _ _ _ c.get-old-in-Subtract.ensures c.sat_sub.ensures c.set-in-Subtract.ensures)
