@@ -19,9 +19,6 @@ use slots::shape::Shape;
 // -32,768, as a number of 32 bits.
 const LEAST_CHAIN: Signed = 4294934528;
 
-// 2^32: -n is stored as 2^32 - n.
-const TWO_TO_32: usize = 4294967296;
-
 // The chain by which a child hangs on a parent: 0, unattached, where the distance doesn't fit 16 bits, as in HarfBuzz.
 // A line of 1,024 slots never comes there; the contract holds for any line.
 pub fn chain_to(child: usize, parent: usize) -> Signed
@@ -36,7 +33,7 @@ pub fn chain_to(child: usize, parent: usize) -> Signed
     }
     let n = child - parent;
     if n <= CHAIN_LIMIT {
-        return (TWO_TO_32 - n) as u32;
+        return (n as u32).wrapping_neg();
     }
     0
 }
