@@ -1,8 +1,8 @@
 -- The CursivePos subtable, format 1 (OpenType, GPOS): uint16 posFormat, Offset16 coverageOffset, uint16 entryExitCount,
 -- EntryExitRecord entryExitRecords[entryExitCount], a record for each covered glyph. Assumes nothing.
 --   EntryExitRecord: Offset16 entryAnchorOffset, Offset16 exitAnchorOffset, from the subtable's start
+use Rattle.std.specs.Prelude.{None, Option, Some}
 use Rattle.std.specs.Prelude.{Bool, true, ◌&&◌, List, [], ◌∷◌, ℕ, ◌+◌, ◌*◌, eqb, leb, length}
-use Rattle.std.proofs.Math.Option.{Option, some, none}
 use Rattle.ints.specs.BigEndian.{u16_at}
 use Rattle.slots.specs.Slot.{Slot}
 use Rattle.slots.specs.Line.{slot}
@@ -10,8 +10,6 @@ use Rattle.tables.specs.Anchor.{Point, anchor_of}
 use Rattle.tables.specs.Coverage.{coverage_at, coverage_good_at}
 use Rattle.tables.specs.Header.{coverage_offset, most_bytes, pos_format}
 use Rattle.tables.specs.Part.{child_of}
-use Rattle.tables.specs.declared.coverage.Covered.{Covered}
-use Rattle.tables.specs.declared.coverage.Covered.TheVariants.{Index, Not}
 use Rattle.answers.specs.Said.{Range, unsafe_to_break, unsafe_to_concat, Said, applied, declined}
 use Rattle.answers.specs.declared.Neighbour.{Neighbour}
 use Rattle.answers.specs.declared.Neighbour.TheVariants.{Named, Missing}
@@ -35,7 +33,7 @@ cursive_good t =
     && (leb header_bytes (length t) && (eqb (pos_format t) 1 && coverage_good_at t (coverage_offset t)))
 
 -- the coverage index of a glyph
-abbrev pub index_of : List ℕ → ℕ → Covered
+abbrev pub index_of : List ℕ → ℕ → Option ℕ
 index_of t g = coverage_at t (coverage_offset t) g
 
 -- an anchor of record k: side 0 is the record's first offset, side 1 its second; the records are one array of offsets
@@ -59,13 +57,13 @@ pub data Plan : Type 0 where
 -- the previous slot i, once it is known to be covered: without an exit anchor the two are not joined, but another glyph
 -- in its place might have one
 abbrev pub after_exit : ℕ → ℕ → Point → Option Point → Plan
-after_exit idx i entry (some exit) = join i exit entry
-after_exit idx i entry none = stop (unsafe_to_concat i (idx + 1) ∷ [])
+after_exit idx i entry (Some exit) = join i exit entry
+after_exit idx i entry None = stop (unsafe_to_concat i (idx + 1) ∷ [])
 
 -- an uncovered previous slot gives no hazard
-abbrev pub after_previous : List ℕ → ℕ → ℕ → Point → Covered → Plan
-after_previous t idx i entry (Index k) = after_exit idx i entry (exit_of t k)
-after_previous t idx i entry Not = stop []
+abbrev pub after_previous : List ℕ → ℕ → ℕ → Point → Option ℕ → Plan
+after_previous t idx i entry (Some k) = after_exit idx i entry (exit_of t k)
+after_previous t idx i entry None = stop []
 
 -- the previous slot that the caller names; or none, with the bound of its search: another glyph from there on might
 -- have been joined
@@ -75,13 +73,13 @@ after_neighbour t ss idx (Missing f) entry = stop (unsafe_to_concat f (idx + 1) 
 
 -- without an entry anchor here the previous slot isn't looked at
 abbrev pub after_entry : List ℕ → List Slot → ℕ → Neighbour → Option Point → Plan
-after_entry t ss idx n (some entry) = after_neighbour t ss idx n entry
-after_entry t ss idx n none = stop []
+after_entry t ss idx n (Some entry) = after_neighbour t ss idx n entry
+after_entry t ss idx n None = stop []
 
 -- nor where this glyph is uncovered
-abbrev pub after_covered : List ℕ → List Slot → ℕ → Neighbour → Covered → Plan
-after_covered t ss idx n (Index k) = after_entry t ss idx n (entry_of t k)
-after_covered t ss idx n Not = stop []
+abbrev pub after_covered : List ℕ → List Slot → ℕ → Neighbour → Option ℕ → Plan
+after_covered t ss idx n (Some k) = after_entry t ss idx n (entry_of t k)
+after_covered t ss idx n None = stop []
 
 -- the plan for slot idx, by its coverage, its entry anchor, the previous slot, its coverage, its exit anchor, in order
 unfoldable pub plan_of : List ℕ → List Slot → ℕ → Neighbour → Plan

@@ -1,55 +1,50 @@
 // Joining two glyphs, along the line and across it.
-ghost use Rattle.std.specs.Prelude.{true, ◌≡◌, ◌<◌};
-ghost use Rattle.ints.specs.code.Scale.{InScale};
+ghost use Rattle.std.specs.Prelude.{◌≡◌, ◌<◌, Ok, Some};
 ghost use Rattle.ints.specs.Signed.{InBytes};
 ghost use Rattle.ints.specs.code.Signed.{val};
 ghost use Rattle.slots.specs.code.Shape.{Inside};
 ghost use Rattle.slots.specs.Line.{slot, slots, update};
-ghost use Rattle.tables.specs.code.Meant.{Near16, point_of};
-ghost use Rattle.tables.specs.declared.coverage.Covered.TheVariants.{Index};
+ghost use Rattle.tables.specs.code.Meant.{point_of};
 ghost use Rattle.answers.specs.code.Effect.{MadeOn};
 ghost use Rattle.answers.specs.Said.{said};
 ghost use Rattle.answers.specs.code.Neighbours.{Before};
 ghost use Rattle.cursive.specs.Attachment.{cursive_attachment, crossed, ended, joined_at, previous_joined, pulled};
-ghost use Rattle.cursive.specs.Attachment.{right_to_left, scaled_at, separated_by, this_joined, tied};
-ghost use Rattle.cursive.specs.CursivePos.{cursive_good, index_of};
+ghost use Rattle.cursive.specs.Attachment.{right_to_left, separated_by, this_joined, tied};
+ghost use Rattle.cursive.specs.CursivePos.{index_of};
 
-use crate::cursive_pos::{Plan, index_of, plan_of};
+use crate::cursive_pos::{CursivePos, Join};
 use answers::{Answer, Hazards, Neighbour, unsafe_to_break};
 use chains::chains::{attach_slot, chain_to};
 use chains::reversal::reverse;
 use ints::big_endian::Signed;
 use ints::saturating::{sat_add, sat_neg, sat_sub};
-use ints::scale::scale;
 use slots::axis::{Axis, Direction};
 use slots::fields::Measure;
+use slots::frame::Frame;
 use slots::layout::CURSIVE_TYPE;
 use slots::shape::Shape;
-use tables::anchor::{Point, coordinate_on};
-use tables::coverage::Covered;
 
 // The core: slot idx is joined to the previous slot, or the line left as it was. Whatever a public call refuses has
 // been refused before.
+#[tactic(auto, unfolding(crate::specs::CursivePos::plan_of))]
 pub fn apply(
     line: &mut [u8],
     shape: Shape,
-    t: &[u8],
-    d: Direction,
-    s: u32,
-    u: u32,
+    frame: Frame,
+    t: CursivePos,
     idx: usize,
     previous: Neighbour,
     flag: u32,
 ) -> Answer
-    requires { Inside shape line.old idx × Before idx previous × InScale s u × (cursive_good t.now ≡ true) }
-    ensures { MadeOn (cursive_attachment t.now d s u idx previous flag)
-        (slots shape line.old) (said result) (slots shape line.new) }
+    requires { Inside shape line.old idx × Before idx previous }
+    ensures { MadeOn (cursive_attachment t.entry.bytes.now frame.direction frame.scale.s frame.scale.u idx previous flag)
+        (slots shape line.old) (said (Ok result)) (slots shape line.new) }
 {
-    match index_of(t, slots::fields::glyph(line, shape, idx)) {
-        Covered::Not => Answer::Declined {
+    match t.index_of(slots::fields::glyph(line, shape, idx)) {
+        Some(k) => apply_covered(line, shape, frame, t, idx, k, previous, flag),
+        None => Answer::Declined {
             hazards: Hazards::None,
         },
-        Covered::Index(k) => apply_covered(line, shape, t, d, s, u, idx, k, previous, flag),
     }
 }
 
@@ -57,77 +52,60 @@ pub fn apply(
 pub fn apply_covered(
     line: &mut [u8],
     shape: Shape,
-    t: &[u8],
-    d: Direction,
-    s: u32,
-    u: u32,
+    frame: Frame,
+    t: CursivePos,
     idx: usize,
     k: usize,
     previous: Neighbour,
     flag: u32,
 ) -> Answer
-    requires { Inside shape line.old idx × Before idx previous × InScale s u × (cursive_good t.now ≡ true)
-        × (index_of t.now (slot (slots shape line.old) idx).glyph ≡ Index k) }
-    ensures { MadeOn (cursive_attachment t.now d s u idx previous flag)
-        (slots shape line.old) (said result) (slots shape line.new) }
+    requires { Inside shape line.old idx × Before idx previous
+        × (index_of t.bytes.now (slot (slots shape line.old) idx).glyph ≡ Some k) }
+    ensures { MadeOn (cursive_attachment t.entry.bytes.now frame.direction frame.scale.s frame.scale.u idx previous flag)
+        (slots shape line.old) (said (Ok result)) (slots shape line.new) }
 {
-    let plan = plan_of(line, shape, t, idx, k, previous);
-    match plan {
-        Plan::Stop(hazards) => Answer::Declined { hazards: hazards },
-        Plan::Join {
-            previous: i,
-            exit,
-            entry,
-        } => {
-            join(line, shape, d, s, u, flag, i, idx, exit, entry);
+    match t.plan_of(line, shape, idx, k, previous) {
+        Ok(join) => {
+            join_slots(line, shape, frame, flag, idx, join);
             Answer::Applied {
                 next: idx + 1,
-                hazards: Hazards::One(unsafe_to_break(i, idx + 1)),
+                hazards: Hazards::One(unsafe_to_break(join.previous, idx + 1)),
                 attached: true,
             }
         }
+        Err(hazards) => Answer::Declined { hazards },
     }
 }
 
-// The previous slot i and slot idx are joined.
-fn join(
-    line: &mut [u8],
-    shape: Shape,
-    d: Direction,
-    s: u32,
-    u: u32,
-    flag: u32,
-    i: usize,
-    idx: usize,
-    exit: Point,
-    entry: Point,
-)
-    requires { (i < idx) × Inside shape line.old idx × InScale s u × Near16 exit × Near16 entry }
+// Slot idx and the previous slot that a plan names are joined.
+#[tactic(auto, unfolding(crate::specs::Attachment::joined_at))]
+fn join_slots(line: &mut [u8], shape: Shape, frame: Frame, flag: u32, idx: usize, join: Join)
+    requires { (join.previous < idx) × Inside shape line.old idx }
     ensures { slots shape line.new
-        ≡ joined_at s u d flag i idx (point_of exit) (point_of entry) (slots shape line.old) }
+        ≡ joined_at frame.scale.s frame.scale.u frame.direction flag join.previous idx
+        (point_of join.exit) (point_of join.entry) (slots shape line.old) }
 {
-    let along = slots::axis::main_axis(d);
-    let across = slots::axis::cross_axis(d);
-    join_previous(line, shape, d, i, scaled_at(exit, along, s, u));
-    join_this(line, shape, d, idx, scaled_at(entry, along, s, u));
+    let d = frame.direction;
+    let along = d.main_axis();
+    let across = d.cross_axis();
+    join_previous(
+        line,
+        shape,
+        d,
+        join.previous,
+        frame.scale.of(join.exit.on(along)),
+    );
+    join_this(line, shape, d, idx, frame.scale.of(join.entry.on(along)));
     cross_over(
         line,
         shape,
         across,
         flag,
-        i,
+        join.previous,
         idx,
-        scaled_at(exit, across, s, u),
-        scaled_at(entry, across, s, u),
+        frame.scale.of(join.exit.on(across)),
+        frame.scale.of(join.entry.on(across)),
     );
-}
-
-// A coordinate of an anchor, scaled.
-fn scaled_at(p: Point, a: Axis, s: u32, u: u32) -> Signed
-    requires { Near16 p × InScale s u }
-    ensures { val result ≡ scaled_at s u a (point_of p) }
-{
-    scale(coordinate_on(p, a), s, u)
 }
 
 // What becomes of the previous glyph, along the line.
@@ -136,11 +114,11 @@ fn join_previous(line: &mut [u8], shape: Shape, d: Direction, i: usize, z: Signe
     ensures { slots shape line.new
         ≡ update i (previous_joined d (val z)) (slots shape line.old) }
 {
-    match d {
-        Direction::LeftToRight => end_at(line, shape, i, Axis::X, z),
-        Direction::RightToLeft => pull_to(line, shape, i, Axis::X, z),
-        Direction::TopToBottom => end_at(line, shape, i, Axis::Y, z),
-        Direction::BottomToTop => pull_to(line, shape, i, Axis::Y, z),
+    let a = d.main_axis();
+    if d.is_forward() {
+        end_at(line, shape, i, a, z);
+    } else {
+        pull_to(line, shape, i, a, z);
     }
 }
 
@@ -151,15 +129,16 @@ fn join_this(line: &mut [u8], shape: Shape, d: Direction, i: usize, z: Signed)
     ensures { slots shape line.new
         ≡ update i (this_joined d (val z)) (slots shape line.old) }
 {
+    let a = d.main_axis();
     match d {
-        Direction::LeftToRight => pull_to(line, shape, i, Axis::X, z),
-        Direction::RightToLeft => end_at(line, shape, i, Axis::X, z),
-        Direction::TopToBottom => pull_to(line, shape, i, Axis::Y, z),
-        Direction::BottomToTop => slots::fields::set(line, shape, i, Measure::Advance, Axis::Y, z),
+        Direction::LeftToRight | Direction::TopToBottom => pull_to(line, shape, i, a, z),
+        Direction::RightToLeft => end_at(line, shape, i, a, z),
+        Direction::BottomToTop => slots::fields::set(line, shape, i, Measure::Advance, a, z),
     }
 }
 
 // The glyph ends at its anchor.
+#[tactic(auto, unfolding(slots::specs::Line::update))]
 fn end_at(line: &mut [u8], shape: Shape, i: usize, a: Axis, z: Signed)
     requires { Inside shape line.old i }
     ensures { slots shape line.new
@@ -170,6 +149,7 @@ fn end_at(line: &mut [u8], shape: Shape, i: usize, a: Axis, z: Signed)
 }
 
 // The glyph is pulled back to its anchor.
+#[tactic(auto, using(crate::proofs::AttachmentLaws::changed_again), unfolding(slots::specs::Line::update))]
 fn pull_to(line: &mut [u8], shape: Shape, i: usize, a: Axis, z: Signed)
     requires { Inside shape line.old i }
     ensures { slots shape line.new
@@ -201,22 +181,21 @@ fn cross_over(
     let between = sat_sub(entry, exit);
     if flag % 2 == 1 {
         tie(line, shape, a, i, idx, between);
-        return;
+    } else {
+        tie(line, shape, a, idx, i, sat_neg(between));
     }
-    tie(line, shape, a, idx, i, sat_neg(between));
 }
 
 // The child hangs on the parent with a cross offset. A slot has room for one chain: where the child hung on another
 // glyph already, that chain is reversed first, so that the glyphs it led to hang on the child, and through it on the
 // new parent, and keep their places among themselves.
+#[tactic(auto, unfolding(crate::specs::Attachment::tied))]
 fn tie(line: &mut [u8], shape: Shape, a: Axis, child: usize, parent: usize, z: Signed)
     requires { Inside shape line.old child × Inside shape line.old parent }
     ensures { slots shape line.new
         ≡ tied a child parent (val z) (slots shape line.old) }
 {
-    let size = shape.size;
-    let n = shape.count;
-    reverse(line, size, n, a, child, parent);
+    reverse(line, shape, a, child, parent);
     let chain = chain_to(child, parent);
     attach_slot(line, shape, child, CURSIVE_TYPE, chain, a, z);
     separate(line, shape, a, parent, chain);
@@ -224,15 +203,14 @@ fn tie(line: &mut [u8], shape: Shape, a: Axis, child: usize, parent: usize, z: S
 
 // The parent separated, if it was attached to the child, which hangs on it by `chain`: else the two would hang on each
 // other (harfbuzz #2469).
+#[tactic(auto, using(crate::proofs::AttachmentLaws::changed_again, crate::proofs::AttachmentLaws::opposites), unfolding(crate::specs::Attachment::separated_by, slots::specs::Line::update))]
 fn separate(line: &mut [u8], shape: Shape, a: Axis, parent: usize, chain: Signed)
     requires { Inside shape line.old parent × InBytes 2 (val chain) }
     ensures { slots shape line.new
         ≡ separated_by a (val chain) parent (slots shape line.old) }
 {
-    let back = sat_neg(chain);
-    if slots::fields::chain(line, shape, parent) != back {
-        return;
+    if slots::fields::chain(line, shape, parent) == sat_neg(chain) {
+        slots::fields::set(line, shape, parent, Measure::Offset, a, 0);
+        slots::fields::set_chain(line, shape, parent, 0);
     }
-    slots::fields::set(line, shape, parent, Measure::Offset, a, 0);
-    slots::fields::set_chain(line, shape, parent, 0);
 }
