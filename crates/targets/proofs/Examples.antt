@@ -1,9 +1,9 @@
 -- Worked values: the loop of the worked sums, and what is easy to get wrong with what marks hang on, at lines and a
 -- subtable that are written out. They compute. Assumes nothing.
+use Rattle.std.specs.Prelude.{None, Some}
 use mathlib.Core.Path.{◌≡◌, refl}
 use mathlib.Core.Bool.{true, false}
 use mathlib.Core.List.{List, [], ◌∷◌, map}
-use mathlib.Core.Option.{some, none}
 use Prim.Native.Nat.{ℕ, ◌%◌}
 use native.Mathlib.Omega.{arith}
 use lib.Dec.{eqb}
@@ -75,15 +75,15 @@ pub record Worked : Type 0 where
   pub other_ids : map (λ (i : ℕ). component_index 3 (part 4 2) (part i 0)) (4 ∷ 5 ∷ 0 ∷ []) ≡ (1 ∷ 2 ∷ 2 ∷ [])
   pub no_ids : component_index 3 (part 0 2) (part 0 0) ≡ 2
   -- the loop: the walk of slot 1 never ends, on either axis; that of the mark ends at once
-  pub endless_walk : (cross_offset Y loop 1 ≡ none) × (cross_offset X loop 1 ≡ none) × (cross_offset Y loop 2 ≡ some (pos 0))
+  pub endless_walk : (cross_offset Y loop 1 ≡ None) × (cross_offset X loop 1 ≡ None) × (cross_offset Y loop 2 ≡ Some (pos 0))
   -- and so, by the law of the walk, for every number of steps it has not ended
   pub never : Endless loop 1
   -- two hops, by the cursive bit of types 2 and 3: it saturates step by step, from the slot outward
-  pub two_hops : map (cross_offset Y hops) (0 ∷ 1 ∷ 2 ∷ []) ≡ (some (negsuc 4) ∷ some (negsuc 3) ∷ some (pos 2147483642) ∷ [])
+  pub two_hops : map (cross_offset Y hops) (0 ∷ 1 ∷ 2 ∷ []) ≡ (Some (negsuc 4) ∷ Some (negsuc 3) ∷ Some (pos 2147483642) ∷ [])
   -- a parent outside the line ends it
-  pub outside : (cross_offset Y (hanging 2 (negsuc 0) (pos 5) ∷ []) 0 ≡ some (pos 5)) × (cross_offset Y (hanging 2 (pos 1) (pos 5) ∷ []) 0 ≡ some (pos 5))
+  pub outside : (cross_offset Y (hanging 2 (negsuc 0) (pos 5) ∷ []) 0 ≡ Some (pos 5)) × (cross_offset Y (hanging 2 (pos 1) (pos 5) ∷ []) 0 ≡ Some (pos 5))
   -- the nearest number that passes, and none
-  pub nearest_is : map (nearest (λ (k : ℕ). eqb (k % 3) 0)) (6 ∷ 4 ∷ 3 ∷ 0 ∷ []) ≡ (some 3 ∷ some 3 ∷ some 0 ∷ none ∷ [])
+  pub nearest_is : map (nearest (λ (k : ℕ). eqb (k % 3) 0)) (6 ∷ 4 ∷ 3 ∷ 0 ∷ []) ≡ (Some 3 ∷ Some 3 ∷ Some 0 ∷ None ∷ [])
   -- of a multiple substitution the first glyph is accepted, and the one after the mark that breaks it; as a ligature only the first
   pub base_accepted : map (accepted Base broken) (0 ∷ 1 ∷ 3 ∷ []) ≡ (true ∷ false ∷ true ∷ [])
   pub ligature_accepted : map (accepted Ligature broken) (0 ∷ 1 ∷ 3 ∷ []) ≡ (true ∷ false ∷ false ∷ [])
@@ -112,9 +112,9 @@ pub record Ends : Type 0 where
   -- a multiplied glyph with a component above 0 in slot 0 is accepted as a base, not as a ligature
   pub first_slot : (accepted Base (glyph_at 5 4 3 5 0 (pos 0) (pos 0) ∷ []) 0 ≡ true) × (accepted Ligature (glyph_at 5 4 3 5 0 (pos 0) (pos 0) ∷ []) 0 ≡ false)
   -- of the type the walk tests the cursive bit alone: 254 has it, 253 has not
-  pub by_bit : map (λ (t : ℕ). cross_offset Y (hanging 0 (pos 0) (pos 5) ∷ hanging t (negsuc 0) (pos 7) ∷ []) 1) (254 ∷ 253 ∷ []) ≡ (some (pos 12) ∷ some (pos 7) ∷ [])
+  pub by_bit : map (λ (t : ℕ). cross_offset Y (hanging 0 (pos 0) (pos 5) ∷ hanging t (negsuc 0) (pos 7) ∷ []) 1) (254 ∷ 253 ∷ []) ≡ (Some (pos 12) ∷ Some (pos 7) ∷ [])
   -- a tail that leads into the loop never ends either; by type 1 it is not followed
-  pub tail : map (λ (t : ℕ). cross_offset Y (hanging 2 (pos 1) (pos 5) ∷ hanging 2 (negsuc 0) (pos 7) ∷ hanging t (negsuc 0) (pos 9) ∷ []) 2) (2 ∷ 1 ∷ []) ≡ (none ∷ some (pos 9) ∷ [])
+  pub tail : map (λ (t : ℕ). cross_offset Y (hanging 2 (pos 1) (pos 5) ∷ hanging 2 (negsuc 0) (pos 7) ∷ hanging t (negsuc 0) (pos 9) ∷ []) 2) (2 ∷ 1 ∷ []) ≡ (None ∷ Some (pos 9) ∷ [])
 
 pub ends : Ends
 unfolding clamp32 parent cross_offset cross_offset_in

@@ -1,6 +1,5 @@
 pub mod MarkPosLaws
 pub mod SearchLaws
-pub mod TogetherLaws
 pub mod PlaceLaws
 pub mod WalkLaws
 pub mod Examples

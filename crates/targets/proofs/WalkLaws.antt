@@ -1,15 +1,13 @@
--- Laws of the walk: one equation for each way that a test of it can end, and that it is refused exactly where it never ends. Assumes nothing.
-use Rattle.std.specs.Prelude.{if◌then◌else◌}
+-- Laws of the walk: one turn of it, and that it is refused exactly where it never ends. Assumes nothing.
+use Rattle.std.specs.Prelude.{None, Some, if◌then◌else◌}
 use mathlib.Core.Path.{◌≡◌, refl, sym, ap, ◌∙◌}
 use mathlib.Core.Bool.{Bool, true, false}
 use mathlib.Core.List.{List}
-use mathlib.Core.Option.{some, none}
-use Prim.Native.Nat.{ℕ, zero, suc, ◌-◌, ◌≤◌, ◌<◌}
+use Prim.Native.Nat.{ℕ, zero, suc, ◌+◌, ◌≤◌, ◌<◌}
 use native.Mathlib.Omega.{arith}
 use lib.IntN.{ℤ}
 use lib.ListN.{length}
 use Rattle.ints.specs.Saturating.{sat_add}
-use Rattle.ints.proofs.TestLaws.{clash}
 use Rattle.ints.specs.theorems.Steps.{steps}
 use Rattle.ints.proofs.StepsLaws.{never_done}
 use Rattle.slots.specs.Slot.{Slot}
@@ -19,46 +17,41 @@ use Rattle.slots.specs.Parent.{by_parent, parent}
 use Rattle.slots.specs.declared.axis.Axis.{Axis}
 use Rattle.slots.specs.declared.parent.Parent.{Parent}
 use Rattle.slots.specs.declared.parent.Parent.TheVariants.{None, Outside, InLine}
+pub use Rattle.slots.proofs.LineLaws.{length_slots}
 use Rattle.slots.proofs.ParentLaws.{parent_in_line}
 use Rattle.targets.specs.Walk.{climb, cross_offset, cross_offset_in}
 use Rattle.targets.specs.theorems.Endless.{ends_at, Endless, next, up}
 
--- ---- where the walk goes on: t is the type of slot i
-module _ (ss : List Slot) (i t : ℕ) (is : t ≡ (slot ss i).attach_type) where
-  pub climb_cursive : cursive_bit t ≡ true → parent ss i ≡ climb ss i
-  climb_cursive h = rw (← is, h)
-
-  pub climb_other : cursive_bit t ≡ false → None ≡ climb ss i
-  climb_other h = rw (← is, h)
-
+-- ---- where the walk goes on
 -- it stays in the line
 pub climb_in : (ss : List Slot) (i j : ℕ) → climb ss i ≡ InLine j → j < length ss
 climb_in ss i j e = go (cursive_bit (slot ss i).attach_type) e
   where
     go : (b : Bool) → (if b then parent ss i else None) ≡ InLine j → j < length ss
     go true h = parent_in_line ss i j h
-    go false h = clash (cc)
+    go false h = cc
 
--- ---- the walk by the tests that are left: all of them; none; and n, where slot i climbs to p
-pub walk_start : (a : Axis) (ss : List Slot) (i n : ℕ) (sum : ℤ) → n ≡ length ss → sum ≡ offset a (slot ss i) → cross_offset a ss i ≡ cross_offset_in n a ss i sum
-unfolding cross_offset
-walk_start a ss i n sum is-n is_sum = rw (is-n, is_sum)
-
+-- ---- the walk by the tests that are left: n, where slot i climbs to p; none
 module _ (a : Axis) (ss : List Slot) where
   by_climb : (n i : ℕ) (sum : ℤ) (p : Parent) → climb ss i ≡ p
-      → cross_offset_in (suc n) a ss i sum ≡ by_parent p (some sum) (some sum) (λ j. cross_offset_in n a ss j (sat_add sum (offset a (slot ss j))))
+      → cross_offset_in (suc n) a ss i sum ≡ by_parent p (Some sum) (Some sum) (λ j. cross_offset_in n a ss j (sat_add sum (offset a (slot ss j))))
   unfolding cross_offset_in
-  by_climb n i sum p e = ap (λ (q : Parent). by_parent q (some sum) (some sum) (λ j. cross_offset_in n a ss j (sat_add sum (offset a (slot ss j))))) e
+  by_climb n i sum p e = ap (λ (q : Parent). by_parent q (Some sum) (Some sum) (λ j. cross_offset_in n a ss j (sat_add sum (offset a (slot ss j))))) e
 
-  pub walk_out : (n i : ℕ) (sum : ℤ) → n ≤ 0 → cross_offset_in n a ss i sum ≡ none
+  pub walk_out : (n i : ℕ) (sum : ℤ) → n ≤ 0 → cross_offset_in n a ss i sum ≡ None
   unfolding cross_offset_in
   walk_out n i sum h = let e : n ≡ 0 = omega arith in rw e
 
-  pub walk_turn : (n i : ℕ) (sum : ℤ) → 0 < n → (p : Parent) → climb ss i ≡ p
-      → cross_offset_in n a ss i sum ≡ by_parent p (some sum) (some sum) (λ j. cross_offset_in (n - 1) a ss j (sat_add sum (offset a (slot ss j))))
-  walk_turn n i sum more p e =
-      let one : n ≡ suc (n - 1) = omega arith in
-      ap (λ (m : ℕ). cross_offset_in m a ss i sum) one ∙ by_climb (n - 1) i sum p e
+  pub walk_turn : (n m i j : ℕ) (sum : ℤ) → n ≡ m + 1 → climb ss i ≡ InLine j
+      → cross_offset_in n a ss i sum ≡ cross_offset_in m a ss j (sat_add sum (offset a (slot ss j)))
+  walk_turn n m i j sum one e = let next : n ≡ suc m = omega arith in rw next (by_climb m i sum (InLine j) e)
+
+pub walk_start : (a : Axis) (ss : List Slot) (i : ℕ) → cross_offset a ss i ≡ cross_offset_in (length ss) a ss i (offset a (slot ss i))
+unfolding cross_offset
+walk_start a ss i = refl
+
+-- what code's walk goes by
+pub ruleset walking = (length_slots, climb_in, walk_start, walk_turn)
 
 -- ---- a walk that has not ended
 -- a step taken first or last
@@ -84,45 +77,45 @@ module _ (ss : List Slot) where
   next_in i h = go (climb ss i) refl
     where
       go : (p : Parent) → climb ss i ≡ p → next ss i < length ss
-      go None e = let w = ends_by i None e in clash (cc)
-      go Outside e = let w = ends_by i Outside e in clash (cc)
+      go None e = let w = ends_by i None e in cc
+      go Outside e = let w = ends_by i Outside e in cc
       go (InLine j) e = rw (next_at i j e) (climb_in ss i j e)
 
   module _ (a : Axis) where
     -- no answer in n tests: in the first n steps it has not ended
-    going : (n i : ℕ) (sum : ℤ) → cross_offset_in n a ss i sum ≡ none → (k : ℕ) → k < n → ends_at ss (up ss i k) ≡ false
+    going : (n i : ℕ) (sum : ℤ) → cross_offset_in n a ss i sum ≡ None → (k : ℕ) → k < n → ends_at ss (up ss i k) ≡ false
     unfolding steps
     going zero i sum h k l = absurd (omega arith)
     going (suc n) i sum h k l = go (climb ss i) refl (going n) k l
       where
-        go : (p : Parent) → climb ss i ≡ p → ((j : ℕ) (s : ℤ) → cross_offset_in n a ss j s ≡ none → (k : ℕ) → k < n → ends_at ss (up ss j k) ≡ false)
+        go : (p : Parent) → climb ss i ≡ p → ((j : ℕ) (s : ℤ) → cross_offset_in n a ss j s ≡ None → (k : ℕ) → k < n → ends_at ss (up ss j k) ≡ false)
             → (k : ℕ) → k < suc n → ends_at ss (up ss i k) ≡ false
-        go None e rest k l = let w = by_climb a ss n i sum None e in clash (cc)
-        go Outside e rest k l = let w = by_climb a ss n i sum Outside e in clash (cc)
+        go None e rest k l = let w = by_climb a ss n i sum None e in cc
+        go Outside e rest k l = let w = by_climb a ss n i sum Outside e in cc
         go (InLine j) e rest zero l = ends_by i (InLine j) e
         go (InLine j) e rest (suc k) l =
-            let w : cross_offset_in n a ss j (sat_add sum (offset a (slot ss j))) ≡ none = sym (by_climb a ss n i sum (InLine j) e) ∙ h in
+            let w : cross_offset_in n a ss j (sat_add sum (offset a (slot ss j))) ≡ None = sym (by_climb a ss n i sum (InLine j) e) ∙ h in
             ap (ends_at ss) (up_at i j k e) ∙ rest j (sat_add sum (offset a (slot ss j))) w k (omega arith)
 
     -- and the other way
-    unanswered : (n i : ℕ) (sum : ℤ) → ((k : ℕ) → k < n → ends_at ss (up ss i k) ≡ false) → cross_offset_in n a ss i sum ≡ none
+    unanswered : (n i : ℕ) (sum : ℤ) → ((k : ℕ) → k < n → ends_at ss (up ss i k) ≡ false) → cross_offset_in n a ss i sum ≡ None
     unfolding steps
     unanswered zero i sum h = walk_out a ss 0 i sum (omega arith)
     unanswered (suc n) i sum h = go (climb ss i) refl (unanswered n)
       where
-        go : (p : Parent) → climb ss i ≡ p → ((j : ℕ) (s : ℤ) → ((k : ℕ) → k < n → ends_at ss (up ss j k) ≡ false) → cross_offset_in n a ss j s ≡ none)
-            → cross_offset_in (suc n) a ss i sum ≡ none
-        go None e rest = let w = ends_by i None e in let v = h 0 (omega arith) in clash (cc)
-        go Outside e rest = let w = ends_by i Outside e in let v = h 0 (omega arith) in clash (cc)
+        go : (p : Parent) → climb ss i ≡ p → ((j : ℕ) (s : ℤ) → ((k : ℕ) → k < n → ends_at ss (up ss j k) ≡ false) → cross_offset_in n a ss j s ≡ None)
+            → cross_offset_in (suc n) a ss i sum ≡ None
+        go None e rest = let w = ends_by i None e in let v = h 0 (omega arith) in cc
+        go Outside e rest = let w = ends_by i Outside e in let v = h 0 (omega arith) in cc
         go (InLine j) e rest =
             by_climb a ss n i sum (InLine j) e
             ∙ rest j (sat_add sum (offset a (slot ss j))) (λ k l. sym (ap (ends_at ss) (up_at i j k e)) ∙ h (suc k) (omega arith))
 
     -- The law of the walk: it is refused exactly where, for every number of steps, it has not ended.
-    pub refused_never : (i : ℕ) → i < length ss → cross_offset a ss i ≡ none → Endless ss i
+    pub refused_never : (i : ℕ) → i < length ss → cross_offset a ss i ≡ None → Endless ss i
     unfolding cross_offset
     refused_never i h e = never_done (next ss) (ends_at ss) (length ss) i h (λ x l w. next_in x w) (going (length ss) i (offset a (slot ss i)) e)
 
-    pub never_refused : (i : ℕ) → Endless ss i → cross_offset a ss i ≡ none
+    pub never_refused : (i : ℕ) → Endless ss i → cross_offset a ss i ≡ None
     unfolding cross_offset
     never_refused i h = unanswered (length ss) i (offset a (slot ss i)) (λ k l. h k)

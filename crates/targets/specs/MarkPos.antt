@@ -2,11 +2,10 @@
 -- uint16 posFormat, Offset16 markCoverageOffset, Offset16 baseCoverageOffset, uint16 markClassCount, Offset16
 -- markArrayOffset, Offset16 baseArrayOffset. MarkLigPos says ligature for base; MarkMarkPos says mark1 for mark, and
 -- mark2, the earlier mark, for base. Assumes nothing.
-use Rattle.std.specs.Prelude.{Bool, ◌&&◌, List, ℕ, eqb, leb, length}
+use Rattle.std.specs.Prelude.{Option, Bool, ◌&&◌, List, ℕ, eqb, leb, length}
 use Rattle.ints.specs.BigEndian.{u16_at}
 use Rattle.tables.specs.Coverage.{coverage_at, coverage_good_at}
 use Rattle.tables.specs.Header.{most_bytes, pos_format}
-use Rattle.tables.specs.declared.coverage.Covered.{Covered}
 
 -- ---- the header's fields after posFormat, by the names of MarkBasePos
 -- where the coverage of the marks is
@@ -42,9 +41,9 @@ marks_good t =
     && coverage_good_at t (base_coverage_offset t))))
 
 -- the coverage index of a glyph among the marks
-unfoldable pub mark_index : List ℕ → ℕ → Covered
+unfoldable pub mark_index : List ℕ → ℕ → Option ℕ
 mark_index t g = coverage_at t (mark_coverage_offset t) g
 
 -- the coverage index of a glyph among the bases, ligatures or earlier marks
-unfoldable pub base_index : List ℕ → ℕ → Covered
+unfoldable pub base_index : List ℕ → ℕ → Option ℕ
 base_index t g = coverage_at t (base_coverage_offset t) g

@@ -1,7 +1,6 @@
 -- The slot that a mark goes on: a base or a ligature is searched for, an earlier mark is named by the caller. Assumes
 -- nothing.
-use Rattle.std.specs.Prelude.{List, [], ◌∷◌, ℕ, ◌+◌, eqb, if◌then◌else◌}
-use Rattle.std.proofs.Math.Option.{Option, some, none}
+use Rattle.std.specs.Prelude.{None, Option, Some, List, [], ◌∷◌, ℕ, ◌+◌, eqb, if◌then◌else◌}
 use Rattle.slots.specs.Slot.{Slot}
 use Rattle.slots.specs.Line.{slot}
 use Rattle.answers.specs.Said.{Range, unsafe_to_concat}
@@ -16,12 +15,12 @@ use Rattle.targets.specs.declared.place.Way.TheVariants.{Search, Earlier}
 
 -- what the search finds: without a base coverage there is none
 abbrev pub searched : Target → List ℕ → List Slot → ℕ → Option ℕ
-searched target t ss idx = if eqb (base_coverage_offset t) 0 then none else found_for target t ss idx
+searched target t ss idx = if eqb (base_coverage_offset t) 0 then None else found_for target t ss idx
 
 -- the slot that the caller names, if the mark may be stacked on it; whether it is covered isn't asked yet
 abbrev pub named : List Slot → ℕ → Neighbour → Option ℕ
-named ss idx (Named i) = if stacks (slot ss idx) (slot ss i) then some i else none
-named ss idx (Missing f) = none
+named ss idx (Named i) = if stacks (slot ss idx) (slot ss i) then Some i else None
+named ss idx (Missing f) = None
 
 -- the slot that the mark in slot idx goes on, if there is one
 unfoldable pub place_for : Way → List ℕ → List Slot → ℕ → Option ℕ

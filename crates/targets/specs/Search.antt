@@ -1,13 +1,10 @@
 -- The search for what a mark attaches to (`find_mark_base`). Assumes nothing.
-use Rattle.std.specs.Prelude.{Bool, true, false, not, ◌&&◌, ◌||◌, List, ℕ, ◌+◌, ◌-◌, eqb}
-use Rattle.std.proofs.Math.Option.{Option}
+use Rattle.std.specs.Prelude.{None, Option, Some, Bool, true, false, not, ◌&&◌, ◌||◌, List, ℕ, ◌+◌, ◌-◌, eqb}
 use Rattle.ints.specs.Tally.{nearest}
 use Rattle.slots.specs.Slot.{Slot}
 use Rattle.slots.specs.Line.{slot}
 use Rattle.slots.specs.Fields.{flag_of}
 use Rattle.slots.specs.declared.fields.Flag.TheVariants.{Seen, Mark, Multiplied}
-use Rattle.tables.specs.declared.coverage.Covered.{Covered}
-use Rattle.tables.specs.declared.coverage.Covered.TheVariants.{Index, Not}
 use Rattle.targets.specs.MarkPos.{base_index}
 use Rattle.targets.specs.declared.mark_pos.Target.{Target}
 use Rattle.targets.specs.declared.mark_pos.Target.TheVariants.{Base, Ligature}
@@ -32,9 +29,9 @@ accepted Base ss i = is_first (slot ss i) || (eqb i 0 || not (goes_on (slot ss (
 accepted Ligature ss i = is_first (slot ss i)
 
 -- is there a coverage index?
-abbrev pub is_covered : Covered → Bool
-is_covered (Index k) = true
-is_covered Not = false
+abbrev pub is_covered : Option ℕ → Bool
+is_covered (Some k) = true
+is_covered None = false
 
 -- The search stops at slot i: it is seen, and accepted or covered. Covered is enough: a font that names as a base a
 -- glyph that isn't accepted wants marks on it (harfbuzz #4124). Accepted is enough too: what isn't covered then ends

@@ -4,7 +4,7 @@ ghost use Rattle.slots.specs.code.Shape.{Inside};
 ghost use Rattle.slots.specs.Line.{slot, slots};
 ghost use Rattle.targets.specs.Component.{component_index};
 
-use slots::fields::ByteField;
+use crate::part::Part;
 use slots::shape::Shape;
 
 // A ligature's component for the mark in slot idx, counted from 0: its own, where the mark comes from the same
@@ -14,18 +14,10 @@ pub fn component_index(line: &[u8], shape: Shape, n: usize, idx: usize, b: usize
     ensures { (result ≡ component_index n (slot (slots shape line.now) idx)
         (slot (slots shape line.now) b)) × (result < n) }
 {
-    let id = slots::fields::get_byte(line, shape, b, ByteField::LigatureId);
-    if id == 0 {
-        return n - 1;
-    }
-    if id != slots::fields::get_byte(line, shape, idx, ByteField::LigatureId) {
-        return n - 1;
-    }
-    let component = slots::fields::get_byte(line, shape, idx, ByteField::Component) as usize;
-    if component == 0 {
-        return n - 1;
-    }
-    if n <= component {
+    let ligature = Part::of(line, shape, b);
+    let mark = Part::of(line, shape, idx);
+    let component = mark.component as usize;
+    if ligature.id == 0 || ligature.id != mark.id || component == 0 || n <= component {
         return n - 1;
     }
     component - 1

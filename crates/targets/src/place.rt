@@ -1,17 +1,15 @@
 // The slot that a mark goes on: a base or a ligature is searched for, an earlier mark is named by the caller.
-ghost use Rattle.std.specs.Prelude.{true, ◌≡◌, ◌≤◌};
+ghost use Rattle.std.specs.Prelude.{◌≡◌, ◌≤◌};
 ghost use Rattle.slots.specs.code.Shape.{Inside};
 ghost use Rattle.slots.specs.Line.{slots};
 ghost use Rattle.answers.specs.code.Neighbours.{Before as NeighbourBefore};
-ghost use Rattle.targets.specs.MarkPos.{marks_good};
 ghost use Rattle.targets.specs.Place.{named as Place·named, place_for, searched as Place·searched};
-ghost use Rattle.targets.specs.code.Meant.{Before, found_of, WayBefore};
+ghost use Rattle.targets.specs.code.Meant.{Before, WayBefore};
 
-use crate::mark_pos::{BASE_COVERAGE_OFFSET, Target};
-use crate::search::{Found, find};
+use crate::mark_pos::{MarkPos, Target};
+use crate::search::find;
 use crate::together::stacks;
 use answers::Neighbour;
-use ints::big_endian::read_u16;
 use slots::shape::Shape;
 
 // How the slot is known.
@@ -24,13 +22,13 @@ pub enum Way {
 }
 
 // The slot that the mark in slot idx goes on, if there is one.
-pub fn place_for(line: &[u8], shape: Shape, t: &[u8], way: Way, idx: usize) -> Found
-    requires { Inside shape line.now idx × WayBefore idx way × (marks_good t.now ≡ true) }
-    ensures { (found_of result ≡ place_for way t.now (slots shape line.now) idx)
-        × Before idx result }
+#[tactic(auto, using(crate::proofs::PlaceLaws::searched_first), unfolding(crate::specs::Place::place_for))]
+pub fn place_for(line: &[u8], shape: Shape, t: MarkPos, way: Way, idx: usize) -> Option<usize>
+    requires { Inside shape line.now idx × WayBefore idx way }
+    ensures { (result ≡ place_for way t.entry.bytes.now (slots shape line.now) idx) × Before idx result }
 {
     match way {
-        Way::Search(target) => searched(line, shape, t, target, idx, 0, Found::Nowhere),
+        Way::Search(target) => searched(line, shape, t, target, idx, 0, None),
         Way::Earlier(earlier) => named(line, shape, idx, earlier),
     }
 }
@@ -39,35 +37,30 @@ pub fn place_for(line: &[u8], shape: Shape, t: &[u8], way: Way, idx: usize) -> F
 pub fn searched(
     line: &[u8],
     shape: Shape,
-    t: &[u8],
+    t: MarkPos,
     target: Target,
     idx: usize,
     until: usize,
-    found: Found,
-) -> Found
-    requires { Inside shape line.now idx × (marks_good t.now ≡ true) × (until ≤ idx)
-        × (found_of found ≡ Place·searched target t.now (slots shape line.now) until) }
-    ensures { (found_of result ≡ Place·searched target t.now (slots shape line.now) idx)
+    found: Option<usize>,
+) -> Option<usize>
+    requires { Inside shape line.now idx × (until ≤ idx)
+        × (found ≡ Place·searched target t.bytes.now (slots shape line.now) until) }
+    ensures { (result ≡ Place·searched target t.entry.bytes.now (slots shape line.now) idx)
         × Before idx result }
 {
-    if read_u16(t, BASE_COVERAGE_OFFSET) == 0 {
-        return Found::Nowhere;
+    if !t.has_base_coverage() {
+        return None;
     }
     find(line, shape, t, target, idx, until, found)
 }
 
 // The slot that the caller names, if the mark may be stacked on it.
-pub fn named(line: &[u8], shape: Shape, idx: usize, earlier: Neighbour) -> Found
+pub fn named(line: &[u8], shape: Shape, idx: usize, earlier: Neighbour) -> Option<usize>
     requires { Inside shape line.now idx × NeighbourBefore idx earlier }
-    ensures { (found_of result ≡ Place·named (slots shape line.now) idx earlier) × Before idx result }
+    ensures { (result ≡ Place·named (slots shape line.now) idx earlier) × Before idx result }
 {
     match earlier {
-        Neighbour::Named(i) => {
-            if stacks(line, shape, idx, i) {
-                return Found::Slot(i);
-            }
-            return Found::Nowhere;
-        }
-        Neighbour::Missing(_) => return Found::Nowhere,
+        Neighbour::Named(i) if stacks(line, shape, idx, i) => Some(i),
+        _ => None,
     }
 }
