@@ -1,5 +1,3 @@
-pub mod AnchorsLaws
-pub mod PlanLaws
 pub mod AttachmentLaws
 pub mod Examples
 pub mod StackingExamples

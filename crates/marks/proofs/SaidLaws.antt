@@ -1,15 +1,13 @@
 -- All that mark attachment may say, by the plan's cases: a property that holds of each holds of what it says. Assumes nothing.
+use Rattle.std.specs.Prelude.{None, Option, Some}
 use mathlib.Core.Bool.{Bool}
 use mathlib.Core.List.{List, [], ◌∷◌}
-use mathlib.Core.Option.{Option, some, none}
 use Prim.Native.Nat.{ℕ, ◌+◌}
 use lib.IntN.{ℤ}
 use Rattle.slots.specs.Slot.{Slot}
 use Rattle.slots.specs.Line.{slot}
 use Rattle.slots.specs.declared.axis.Axis.{Axis}
 use Rattle.tables.specs.Anchor.{Point}
-use Rattle.tables.specs.declared.coverage.Covered.{Covered}
-use Rattle.tables.specs.declared.coverage.Covered.TheVariants.{Index, Not}
 use Rattle.answers.specs.Said.{applied, declined, Range, refused, Said}
 use Rattle.targets.specs.MarkPos.{base_index, mark_index}
 use Rattle.targets.specs.Place.{place_for}
@@ -26,8 +24,8 @@ module _ (P : Said → Type 0) (way : Way) (a : Axis) (t : List ℕ) (ss : List 
     (misses : (h : Range) → P (declined (h ∷ [])))
     (hangs : (h : Range) (attached : Bool) → P (applied (idx + 1) (h ∷ []) attached)) where
   walks : (b : ℕ) (base mark : Point) (w : Option ℤ) → P (plan_said idx (after_walk b base mark w))
-  walks b base mark (some walk) = hangs _ _
-  walks b base mark none = refuses
+  walks b base mark (Some walk) = hangs _ _
+  walks b base mark None = refuses
 
   anchors : (b : ℕ) (found : Anchors) → P (plan_said idx (after_anchors a ss idx b found))
   anchors b (both base mark) = walks b base mark (cross_offset a ss b)
@@ -39,17 +37,17 @@ module _ (P : Said → Type 0) (way : Way) (a : Axis) (t : List ℕ) (ss : List 
   reported b (Search target) = misses _
   reported b (Earlier earlier) = declines
 
-  found : (m b : ℕ) (c : Covered) → P (plan_said idx (after_found way a t ss idx m b c))
-  found m b (Index k) = anchors b (anchors_for (laid_out way) t k m (slot ss idx) (slot ss b))
-  found m b Not = reported b way
+  found : (m b : ℕ) (c : Option ℕ) → P (plan_said idx (after_found way a t ss idx m b c))
+  found m b (Some k) = anchors b (anchors_for (laid_out way) t k m (slot ss idx) (slot ss b))
+  found m b None = reported b way
 
   placed : (m : ℕ) (p : Option ℕ) → P (plan_said idx (after_place way a t ss idx m p))
-  placed m (some b) = found m b (base_index t (slot ss b).glyph)
-  placed m none = of_missed (λ hs. P (declined hs)) declines misses t idx way
+  placed m (Some b) = found m b (base_index t (slot ss b).glyph)
+  placed m None = of_missed (λ hs. P (declined hs)) declines misses t idx way
 
-  covered : (c : Covered) → P (plan_said idx (after_covered way a t ss idx c))
-  covered (Index m) = placed m (place_for way t ss idx)
-  covered Not = declines
+  covered : (c : Option ℕ) → P (plan_said idx (after_covered way a t ss idx c))
+  covered (Some m) = placed m (place_for way t ss idx)
+  covered None = declines
 
   pub says : P (plan_said idx (plan_of way a t ss idx))
   unfolding plan_of

@@ -4,16 +4,13 @@
 --   BaseArray: uint16 baseCount, then a row for each base; a Mark2Array likewise, for each earlier mark
 --   LigatureArray: uint16 ligatureCount, Offset16 ligatureAttachOffsets[ligatureCount]
 --   LigatureAttach: uint16 componentCount, then a row for each component
-use Rattle.std.specs.Prelude.{List, ℕ, eqb, if◌then◌else◌}
-use Rattle.std.proofs.Math.Option.{Option, some, none}
+use Rattle.std.specs.Prelude.{None, Option, Some, List, ℕ, eqb, if◌then◌else◌}
 use Rattle.ints.specs.BigEndian.{u16_at}
 use Rattle.slots.specs.Slot.{Slot}
 use Rattle.tables.specs.Anchor.{Point}
 use Rattle.tables.specs.AnchorRows.{anchor_in, rows_of}
 use Rattle.tables.specs.MarkArray.{MarkAnchor, mark_of}
 use Rattle.tables.specs.Part.{child_of, table_at}
-use Rattle.tables.specs.declared.anchor_rows.Rows.{Rows}
-use Rattle.tables.specs.declared.anchor_rows.Rows.TheVariants.{Of, Absent}
 use Rattle.targets.specs.Component.{component_index}
 use Rattle.targets.specs.MarkPos.{base_array_offset, mark_array_offset, mark_class_count}
 use Rattle.targets.specs.declared.mark_pos.Target.{Target}
@@ -42,8 +39,8 @@ row_table Ligature t k = ligature_attach (table_at t (base_array_offset t)) k
 
 -- the row of base k; of a ligature with n components, the row of the component, which one without components lacks
 abbrev pub row_for : Target → ℕ → ℕ → Slot → Slot → Option ℕ
-row_for Base k n mark base = some k
-row_for Ligature k n mark base = if eqb n 0 then none else some (component_index n mark base)
+row_for Base k n mark base = Some k
+row_for Ligature k n mark base = if eqb n 0 then None else Some (component_index n mark base)
 
 -- the anchors found: the base's and the mark's; or one is missing; or a ligature has no component
 pub data Anchors : Type 0 where
@@ -53,24 +50,24 @@ pub data Anchors : Type 0 where
 
 -- the mark's anchor is there: so is the base's, or not
 abbrev pub after_base : Point → Option Point → Anchors
-after_base mark (some base) = both base mark
-after_base mark none = missing
+after_base mark (Some base) = both base mark
+after_base mark None = missing
 
 -- the mark's anchor, and the base's in a row for the mark's class
 abbrev pub after_mark : List ℕ → ℕ → ℕ → ℕ → Option MarkAnchor → Anchors
-after_mark rows n columns row (some m) = after_base m.anchor (anchor_in rows n columns row m.class)
-after_mark rows n columns row none = missing
+after_mark rows n columns row (Some m) = after_base m.anchor (anchor_in rows n columns row m.class)
+after_mark rows n columns row None = missing
 
 -- the row is known; a ligature without components is reported before the mark is looked at
 abbrev pub after_row : List ℕ → ℕ → ℕ → Option MarkAnchor → Option ℕ → Anchors
-after_row rows n columns mark (some row) = after_mark rows n columns row mark
-after_row rows n columns mark none = empty
+after_row rows n columns mark (Some row) = after_mark rows n columns row mark
+after_row rows n columns mark None = empty
 
 -- n rows, all there; rows absent: missing
-abbrev pub after_rows : Target → List ℕ → ℕ → ℕ → Slot → Slot → Rows → Anchors
-after_rows target t k m mark base (Of n) =
+abbrev pub after_rows : Target → List ℕ → ℕ → ℕ → Slot → Slot → Option ℕ → Anchors
+after_rows target t k m mark base (Some n) =
     after_row (row_table target t k) n (mark_class_count t) (mark_at t m) (row_for target k n mark base)
-after_rows target t k m mark base Absent = missing
+after_rows target t k m mark base None = missing
 
 -- the anchors by which mark m, in the slot `mark`, attaches to base k, in the slot `base`: the rows must be whole
 unfoldable pub anchors_for : Target → List ℕ → ℕ → ℕ → Slot → Slot → Anchors

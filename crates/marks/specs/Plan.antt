@@ -1,13 +1,10 @@
 -- What is to be done for a mark. Assumes nothing.
-use Rattle.std.specs.Prelude.{Bool, List, [], ◌∷◌, ℕ, ◌+◌, ◌-◌, leb, ℤ}
-use Rattle.std.proofs.Math.Option.{Option, some, none}
+use Rattle.std.specs.Prelude.{None, Option, Some, Bool, List, [], ◌∷◌, ℕ, ◌+◌, ◌-◌, leb, ℤ}
 use Rattle.slots.specs.Slot.{Slot}
 use Rattle.slots.specs.Line.{slot}
 use Rattle.slots.specs.Parent.{chain_limit}
 use Rattle.slots.specs.declared.axis.Axis.{Axis}
 use Rattle.tables.specs.Anchor.{Point}
-use Rattle.tables.specs.declared.coverage.Covered.{Covered}
-use Rattle.tables.specs.declared.coverage.Covered.TheVariants.{Index, Not}
 use Rattle.answers.specs.Said.{Range, unsafe_to_break, unsafe_to_concat, Said, applied, declined, refused}
 use Rattle.targets.specs.MarkPos.{base_index, mark_index}
 use Rattle.targets.specs.Place.{missed, place_for}
@@ -27,8 +24,8 @@ pub data Plan : Type 0 where
 
 -- once both anchors are known: slot b's walk ends, or not
 abbrev pub after_walk : ℕ → Point → Point → Option ℤ → Plan
-after_walk b base mark (some walk) = hang b base mark walk
-after_walk b base mark none = endless
+after_walk b base mark (Some walk) = hang b base mark walk
+after_walk b base mark None = endless
 
 -- once the anchors are known; in place of a ligature without components another glyph might have had an anchor
 abbrev pub after_anchors : Axis → List Slot → ℕ → ℕ → Anchors → Plan
@@ -48,20 +45,20 @@ uncovered (Search target) idx b = unsafe_to_concat b (idx + 1) ∷ []
 uncovered (Earlier earlier) idx b = []
 
 -- once slot b is known: it is covered, or not
-abbrev pub after_found : Way → Axis → List ℕ → List Slot → ℕ → ℕ → ℕ → Covered → Plan
-after_found way a t ss idx m b (Index k) =
+abbrev pub after_found : Way → Axis → List ℕ → List Slot → ℕ → ℕ → ℕ → Option ℕ → Plan
+after_found way a t ss idx m b (Some k) =
     after_anchors a ss idx b (anchors_for (laid_out way) t k m (slot ss idx) (slot ss b))
-after_found way a t ss idx m b Not = stop (uncovered way idx b)
+after_found way a t ss idx m b None = stop (uncovered way idx b)
 
 -- once the place is known: a slot, or none
 abbrev pub after_place : Way → Axis → List ℕ → List Slot → ℕ → ℕ → Option ℕ → Plan
-after_place way a t ss idx m (some b) = after_found way a t ss idx m b (base_index t (slot ss b).glyph)
-after_place way a t ss idx m none = stop (missed way t idx)
+after_place way a t ss idx m (Some b) = after_found way a t ss idx m b (base_index t (slot ss b).glyph)
+after_place way a t ss idx m None = stop (missed way t idx)
 
 -- by the mark's own coverage
-abbrev pub after_covered : Way → Axis → List ℕ → List Slot → ℕ → Covered → Plan
-after_covered way a t ss idx (Index m) = after_place way a t ss idx m (place_for way t ss idx)
-after_covered way a t ss idx Not = stop []
+abbrev pub after_covered : Way → Axis → List ℕ → List Slot → ℕ → Option ℕ → Plan
+after_covered way a t ss idx (Some m) = after_place way a t ss idx m (place_for way t ss idx)
+after_covered way a t ss idx None = stop []
 
 -- The plan for the mark in slot idx, by its own coverage, the slot that it goes on (of an earlier mark: mark bit, then
 -- ids and components), that slot's coverage, the anchors, the walk, in this order; a is the cross axis.

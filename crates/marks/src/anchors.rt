@@ -1,21 +1,18 @@
 // The anchors by which a mark attaches: its own, from the mark array, and the base's, from a row for its class.
-ghost use Rattle.std.specs.Prelude.{true, ◌≡◌, ◌<◌};
-ghost use Rattle.ints.specs.Limits.{whole16};
+ghost use Rattle.std.specs.Prelude.{◌≡◌};
 ghost use Rattle.slots.specs.code.Shape.{Inside};
 ghost use Rattle.slots.specs.Line.{slot, slots};
-ghost use Rattle.tables.specs.code.Meant.{AnchorNear, Near16, anchor_point, point_of, MarkNear, mark_anchor};
-ghost use Rattle.targets.specs.MarkPos.{marks_good};
-ghost use Rattle.marks.specs.Anchors.{anchors_for, row_for, row_table, after_base, after_mark};
-ghost use Rattle.marks.specs.code.Meant.{anchors_of, AnchorsNear, row_of};
+ghost use Rattle.marks.specs.Anchors.{anchors_for, row_for, row_table};
+ghost use Rattle.marks.specs.code.Meant.{anchors_of};
 
 use ints::big_endian::read_u16;
 use slots::shape::Shape;
-use tables::anchor::{Anchor, Point};
-use tables::anchor_rows::Rows;
-use tables::mark_array::Mark;
-use tables::part::{child_of, table_at};
+use tables::anchor_rows::{anchor_in, rows_of};
+use tables::mark_array::mark_of;
+use tables::part::child_of;
+use tables::point::Point;
 use targets::component::component_index;
-use targets::mark_pos::{BASE_ARRAY_OFFSET, MARK_ARRAY_OFFSET, MARK_CLASS_COUNT, Target};
+use targets::mark_pos::{MarkPos, Target};
 
 // The fields of a LigatureArray.
 const LIGATURE_COUNT: usize = 0;
@@ -24,58 +21,53 @@ const LIGATURE_ATTACH_OFFSETS: usize = 2;
 
 // The anchors that were found.
 #[derive(Clone, Copy)]
-pub enum Anchors {
-    // Both: the base's, and the mark's.
-    Both { base: Point, mark: Point },
+pub struct Anchors {
+    pub base: Point,
+    pub mark: Point,
+}
+
+// Why they weren't.
+#[derive(Clone, Copy)]
+pub enum NoAnchors {
     // One of them is missing, or a table on the way to it.
     Missing,
     // The ligature has no component.
     Empty,
 }
 
-// The row of anchors to look in, or that there is none.
-#[derive(Clone, Copy)]
-pub enum Row {
-    Of(usize),
-    Missing,
-}
-
 // The anchors by which mark m, in slot idx, attaches to base k, in slot b.
+#[tactic(auto, using(tables::proofs::AnchorRowsLaws::rows_few), unfolding(crate::specs::Anchors::anchors_for))]
 pub fn find_anchors(
     line: &[u8],
     shape: Shape,
-    t: &[u8],
+    t: MarkPos,
     target: Target,
     k: usize,
     m: usize,
     idx: usize,
     b: usize,
-) -> Anchors
-    requires { Inside shape line.now idx × Inside shape line.now b × (marks_good t.now ≡ true) }
-    ensures { (anchors_of result ≡ anchors_for target t.now k m (slot (slots shape line.now) idx)
-        (slot (slots shape line.now) b)) × AnchorsNear result }
+) -> Result<Anchors, NoAnchors>
+    requires { Inside shape line.now idx × Inside shape line.now b }
+    ensures { anchors_of result ≡ anchors_for target t.entry.bytes.now k m (slot (slots shape line.now) idx)
+        (slot (slots shape line.now) b) }
 {
     let rows = row_table(t, target, k);
-    let columns = read_u16(t, MARK_CLASS_COUNT) as usize;
-    match tables::anchor_rows::rows_of(rows, columns) {
-        Rows::Absent => Anchors::Missing,
-        Rows::Of(n) => {
-            let found = row_for(line, shape, target, k, n, idx, b);
-            let Row::Of(row) = found else {
-                return Anchors::Empty;
-            };
-            let marks = table_at(t, read_u16(t, MARK_ARRAY_OFFSET) as usize);
-            after_mark(rows, n, columns, row, tables::mark_array::mark_of(marks, m))
-        }
-    }
+    let columns = t.mark_class_count();
+    let n = rows_of(rows, columns).ok_or(NoAnchors::Missing)?;
+    let row = row_for(line, shape, target, k, n, idx, b).ok_or(NoAnchors::Empty)?;
+    let mark = mark_of(t.mark_array(), m).ok_or(NoAnchors::Missing)?;
+    let base = anchor_in(rows, n, columns, row, mark.class as usize).ok_or(NoAnchors::Missing)?;
+    Ok(Anchors {
+        base,
+        mark: mark.anchor,
+    })
 }
 
 // The table with the anchor rows: the base array, or the components of ligature k; empty where there is none.
-fn row_table<'a>(t: &'a [u8], target: Target, k: usize) -> &'a [u8]
-    requires { marks_good t.now ≡ true }
-    ensures { result.now ≡ row_table target t.now k }
+fn row_table<'a>(t: MarkPos<'a>, target: Target, k: usize) -> &'a [u8]
+    ensures { result.now ≡ row_table target t.entry.bytes.now k }
 {
-    let array = table_at(t, read_u16(t, BASE_ARRAY_OFFSET) as usize);
+    let array = t.base_array();
     match target {
         Target::Base => array,
         Target::Ligature => {
@@ -97,46 +89,13 @@ fn row_for(
     n: usize,
     idx: usize,
     b: usize,
-) -> Row
+) -> Option<usize>
     requires { Inside shape line.now idx × Inside shape line.now b }
-    ensures { row_of result ≡ row_for target k n (slot (slots shape line.now) idx)
-        (slot (slots shape line.now) b) }
+    ensures { result ≡ row_for target k n (slot (slots shape line.now) idx) (slot (slots shape line.now) b) }
 {
     match target {
-        Target::Base => Row::Of(k),
-        Target::Ligature => {
-            if n == 0 {
-                return Row::Missing;
-            }
-            Row::Of(component_index(line, shape, n, idx, b))
-        }
-    }
-}
-
-// There are rows: the mark has an anchor and a class, by which the base's is looked up, or not.
-fn after_mark(rows: &[u8], n: usize, columns: usize, row: usize, mark: Mark) -> Anchors
-    requires { (n < whole16) × (columns < whole16) × MarkNear mark }
-    ensures { (anchors_of result ≡ after_mark rows.now n columns row (mark_anchor mark)) × AnchorsNear result }
-{
-    match mark {
-        Mark::Of { class, anchor } => after_base(
-            anchor,
-            tables::anchor_rows::anchor_in(rows, n, columns, row, class as usize),
-        ),
-        Mark::Absent => Anchors::Missing,
-    }
-}
-
-// The mark has an anchor: so has the base, or not.
-fn after_base(mark: Point, base: Anchor) -> Anchors
-    requires { Near16 mark × AnchorNear base }
-    ensures { (anchors_of result ≡ after_base (point_of mark) (anchor_point base)) × AnchorsNear result }
-{
-    match base {
-        Anchor::At(p) => Anchors::Both {
-            base: p,
-            mark: mark,
-        },
-        Anchor::Absent => Anchors::Missing,
+        Target::Base => Some(k),
+        Target::Ligature if n == 0 => None,
+        Target::Ligature => Some(component_index(line, shape, n, idx, b)),
     }
 }
