@@ -1,7 +1,7 @@
 -- All that single adjustment may say: a property that holds of each holds of what it says. Assumes nothing.
+use Rattle.std.specs.Prelude.{None, Option, Some}
 use mathlib.Core.Bool.{false}
 use mathlib.Core.List.{List, []}
-use mathlib.Core.Option.{Option, some, none}
 use Prim.Native.Nat.{ℕ, ◌+◌}
 use Rattle.slots.specs.Slot.{Slot}
 use Rattle.slots.specs.Line.{slot}
@@ -12,5 +12,5 @@ pub says : (P : Said → Type 0) (t : List ℕ) (ss : List Slot) (i : ℕ) → P
 says P t ss i declines applies = go (place_for t (slot ss i).glyph)
   where
     go : (place : Option ℕ) → P (adjust_said i place)
-    go (some at) = applies
-    go none = declines
+    go (Some at) = applies
+    go None = declines

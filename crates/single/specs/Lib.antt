@@ -1,2 +1,2 @@
 pub mod SinglePos  -- the subtable, and adjusting by it
-pub mod code  -- of code: what its values stand for
+pub mod code  -- of code: its bounds

@@ -2,16 +2,13 @@
 --   format 1: uint16 posFormat, Offset16 coverageOffset, uint16 valueFormat, valueRecord, for all covered glyphs
 --   format 2: uint16 posFormat, Offset16 coverageOffset, uint16 valueFormat, uint16 valueCount,
 --     valueRecords[valueCount], one for each coverage index
-use Rattle.std.specs.Prelude.{Bool, false, ◌&&◌, List, [], ℕ, ◌+◌, ◌*◌, eqb, leb, ltb, length, if◌then◌else◌}
-use Rattle.std.proofs.Math.Option.{Option, some, none}
+use Rattle.std.specs.Prelude.{Bool, false, ◌&&◌, List, [], ℕ, ◌+◌, ◌*◌, eqb, leb, ltb, length, if◌then◌else◌, None, Option, Some}
 use Rattle.ints.specs.BigEndian.{u16_at}
 use Rattle.slots.specs.Slot.{Slot}
 use Rattle.slots.specs.Line.{slot, update}
 use Rattle.slots.specs.declared.axis.Direction.{Direction}
 use Rattle.tables.specs.Coverage.{coverage_at, coverage_good_at}
 use Rattle.tables.specs.Header.{coverage_offset, header_good, most_bytes, pos_format}
-use Rattle.tables.specs.declared.coverage.Covered.{Covered}
-use Rattle.tables.specs.declared.coverage.Covered.TheVariants.{Index, Not}
 use Rattle.values.specs.Format.{record_at, record_length}
 use Rattle.values.specs.Value.{valued}
 use Rattle.answers.specs.Outcome.{Call}
@@ -41,12 +38,12 @@ single_good t =
     && (leb (value_format t) 255 && coverage_good_at t (coverage_offset t)))
 
 -- where the value record of a coverage index is: a glyph that is covered past the count has none
-abbrev pub value_place : List ℕ → Covered → Option ℕ
-value_place t (Index k) =
-    if eqb (pos_format t) 1 then some value_record
-    else (if ltb k (value_count t) then some (value_records + record_length (value_format t) * k)
-    else none)
-value_place t Not = none
+abbrev pub value_place : List ℕ → Option ℕ → Option ℕ
+value_place t (Some k) =
+    if eqb (pos_format t) 1 then Some value_record
+    else (if ltb k (value_count t) then Some (value_records + record_length (value_format t) * k)
+    else None)
+value_place t None = None
 
 -- where the value record of a glyph is: none for an uncovered one
 unfoldable pub place_for : List ℕ → ℕ → Option ℕ
@@ -54,13 +51,13 @@ place_for t g = value_place t (coverage_at t (coverage_offset t) g)
 
 -- what is said of slot i: applied where there is a record, even if it is cut or does nothing
 abbrev pub adjust_said : ℕ → Option ℕ → Said
-adjust_said i (some at) = applied (i + 1) [] false
-adjust_said i none = declined []
+adjust_said i (Some at) = applied (i + 1) [] false
+adjust_said i None = declined []
 
 -- the slots with the record at that place applied to slot i
 abbrev pub adjusted : ℕ → ℕ → Direction → List ℕ → ℕ → Option ℕ → List Slot → List Slot
-adjusted s u d t i (some at) ss = update i (valued s u d (record_at t at (value_format t)) (value_format t)) ss
-adjusted s u d t i none ss = ss
+adjusted s u d t i (Some at) ss = update i (valued s u d (record_at t at (value_format t)) (value_format t)) ss
+adjusted s u d t i None ss = ss
 
 -- what is said of slot i, by its glyph
 abbrev pub single_said : List ℕ → List Slot → ℕ → Said

@@ -1,18 +1,13 @@
 // The SinglePos subtable: its check, and which record a glyph has.
-ghost use Rattle.std.specs.Prelude.{true, ◌≡◌, ◌<◌};
-ghost use Rattle.ints.specs.Limits.{whole16};
-ghost use Rattle.tables.specs.Coverage.{coverage_at};
-ghost use Rattle.tables.specs.Header.{coverage_offset};
-ghost use Rattle.tables.specs.declared.coverage.Covered.TheVariants.{Index};
-ghost use Rattle.single.specs.SinglePos.{value_place, single_good};
-ghost use Rattle.single.specs.code.Meant.{value_place_of, ValuePlaceSmall};
+ghost use Rattle.std.specs.Prelude.{true, ◌≡◌};
+ghost use Rattle.single.specs.SinglePos.{single_good};
 
 use ints::big_endian::read_u16;
-use tables::coverage::Covered;
 use tables::header::{COVERAGE_OFFSET, MOST_BYTES, POS_FORMAT, header_good};
+use values::format::record_len;
 
 // The field of the header that both formats have after those of every subtable.
-pub const VALUE_FORMAT: usize = 4;
+const VALUE_FORMAT: usize = 4;
 
 // Format 1: the value record.
 const VALUE_RECORD: usize = 6;
@@ -22,49 +17,68 @@ const VALUE_COUNT: usize = 6;
 
 const VALUE_RECORDS: usize = 8;
 
-// Where a glyph's value record is.
+// A subtable that passed the check.
 #[derive(Clone, Copy)]
-pub enum ValuePlace {
-    // At this byte of the subtable.
-    Byte(usize),
-    // The glyph has none.
-    Nowhere,
+pub struct SinglePos<'a> {
+    pub bytes: &'a [u8],
+    pub ghost good: { single_good bytes.now ≡ true },
 }
 
-// The check: not too long, header good, value format known, coverage good.
-pub fn is_good(t: &[u8]) -> bool
-    ensures { result ≡ single_good t.now }
-{
-    if MOST_BYTES < t.len() {
-        return false;
-    }
-    if !header_good(t, VALUE_RECORD, VALUE_RECORDS) {
-        return false;
-    }
-    if 255 < read_u16(t, VALUE_FORMAT) {
-        return false;
-    }
-    tables::coverage::good_at(t, read_u16(t, COVERAGE_OFFSET) as usize)
-}
+impl<'a> SinglePos<'a> {
+    ghost use Rattle.std.specs.Prelude.{true, false, Some, ◌≡◌, ◌<◌, IfSome, MatchOption};
+    ghost use Rattle.ints.specs.Limits.{whole16};
+    ghost use Rattle.tables.specs.Coverage.{coverage_at};
+    ghost use Rattle.tables.specs.Header.{coverage_offset};
+    ghost use Rattle.single.specs.SinglePos.{single_good, value_format, value_place};
+    ghost use Rattle.single.specs.code.Bounds.{place_end};
 
-// A glyph's coverage index.
-pub fn index_of(t: &[u8], glyph: u32) -> Covered
-    requires { (glyph < whole16) × (single_good t.now ≡ true) }
-    ensures { result ≡ coverage_at t.now (coverage_offset t.now) glyph }
-{
-    tables::coverage::index_at(t, read_u16(t, COVERAGE_OFFSET) as usize, glyph)
-}
+    // The check: not too long, header good, value format known, coverage good.
+    #[tactic(auto, using(tables::proofs::HeaderLaws::header), unfolding(crate::specs::SinglePos::single_good))]
+    pub fn new(bytes: &'a [u8]) -> Option<SinglePos<'a>>
+        ensures { MatchOption result (single_good bytes.now ≡ false)
+            (λ t. (single_good bytes.now ≡ true) × (t.bytes.now ≡ bytes.now)) }
+    {
+        if bytes.len() <= MOST_BYTES
+            && header_good(bytes, VALUE_RECORD, VALUE_RECORDS)
+            && read_u16(bytes, VALUE_FORMAT) <= 255
+            && tables::coverage::good_at(bytes, read_u16(bytes, COVERAGE_OFFSET) as usize)
+        {
+            return Some(SinglePos { bytes });
+        }
+        None
+    }
 
-// Where the value record of a coverage index is. A glyph covered past the end of the values has none.
-pub fn value_place(t: &[u8], k: usize) -> ValuePlace
-    requires { single_good t.now ≡ true }
-    ensures { (value_place_of result ≡ value_place t.now (Index k)) × ValuePlaceSmall result }
-{
-    if read_u16(t, POS_FORMAT) == 1 {
-        return ValuePlace::Byte(VALUE_RECORD);
+    // A glyph's coverage index.
+    #[tactic(auto, using(crate::proofs::SinglePosLaws::of_good))]
+    pub fn index_of(self, glyph: u32) -> Option<usize>
+        requires { glyph < whole16 }
+        ensures { result ≡ coverage_at self.entry.bytes.now (coverage_offset self.entry.bytes.now) glyph }
+    {
+        tables::coverage::index_at(
+            self.bytes,
+            read_u16(self.bytes, COVERAGE_OFFSET) as usize,
+            glyph,
+        )
     }
-    if read_u16(t, VALUE_COUNT) as usize <= k {
-        return ValuePlace::Nowhere;
+
+    // Which fields a value record has.
+    #[tactic(auto, using(crate::proofs::SinglePosLaws::of_good))]
+    pub fn value_format(self) -> u32
+        ensures { (result ≡ value_format self.entry.bytes.now) × (result < 256) }
+    {
+        read_u16(self.bytes, VALUE_FORMAT)
     }
-    ValuePlace::Byte(VALUE_RECORDS + values::format::record_len(read_u16(t, VALUE_FORMAT)) * k)
+
+    // Where the value record of a coverage index is. A glyph covered past the end of the values has none.
+    #[tactic(auto, using(crate::proofs::SinglePosLaws::of_good))]
+    pub fn value_place(self, k: usize) -> Option<usize>
+        ensures { (result ≡ value_place self.entry.bytes.now (Some k)) × IfSome result (λ at. at < place_end) }
+    {
+        if read_u16(self.bytes, POS_FORMAT) == 1 {
+            return Some(VALUE_RECORD);
+        }
+        let count = read_u16(self.bytes, VALUE_COUNT) as usize;
+        let size = record_len(self.value_format());
+        (k < count).then(|| VALUE_RECORDS + size * k)
+    }
 }
