@@ -1,9 +1,11 @@
 -- What the probe means: in a pair set that is whole and ascends, by halves one finds what the plain reading finds. Assumes nothing.
+use Rattle.std.specs.Prelude.{None, Option, Some, Result, Ok, Err}
+use Rattle.std.specs.Option.{ok_or}
+use Rattle.std.specs.Result.{result_ok}
 use mathlib.Core.Path.{◌≡◌, refl, sym, ap, ◌∙◌}
 use mathlib.Core.Logic.{⊎_elim}
 use mathlib.Core.Bool.{true}
 use mathlib.Core.List.{List}
-use mathlib.Core.Option.{Option, some, none}
 use Prim.Native.Nat.{ℕ, zero, suc, ◌+◌, ◌*◌, ◌≤◌, ◌<◌}
 use native.Mathlib.Nat.{add-zero}
 use native.Mathlib.Omega.{arith}
@@ -14,25 +16,24 @@ use Rattle.ints.specs.BigEndian.{nat_at}
 use Rattle.ints.proofs.TestLaws.{and_right}
 use Rattle.tables.specs.Spans.{Span}
 use Rattle.tables.proofs.SpansLaws.{Apart, Between, at_start, go_down, go_up, row_in, side}
-use Rattle.pair.specs.theorems.PlainReading.{Ascending, first_with, found_at, plain, whole}
+use Rattle.pair.specs.theorems.PlainReading.{Ascending, first_with, plain, whole}
 use Rattle.pair.specs.PairSet.{middle, probe, probe_in, pair_value_record, second_glyph}
-use Rattle.pair.specs.declared.pair_set.Probe.{Probe}
-use Rattle.pair.specs.declared.pair_set.Probe.TheVariants.{Found, Nothing}
+use Rattle.pair.specs.declared.pair_set.Missed.{Missed}
+use Rattle.pair.specs.declared.pair_set.Missed.TheVariants.{Nothing}
 use Rattle.pair.proofs.PairSetLaws.{probe_down, probe_hit, probe_over, probe_up}
 
--- the probe's answer to what the plain reading finds, and back
-abbrev pub told : Option ℕ → Probe
-told (some at) = Found at
-told none = Nothing
+-- a probe that nothing cuts says so where there is nothing
+abbrev told : Option ℕ → Result ℕ Missed
+told o = ok_or o Nothing
 
-told_back : (o : Option ℕ) → found_at (told o) ≡ o
-told_back (some at) = refl
-told_back none = refl
+told_back : (o : Option ℕ) → result_ok (told o) ≡ o
+told_back (Some at) = refl
+told_back None = refl
 
 module _ (set : List ℕ) (size g : ℕ) where
   -- ---- the plain reading of the n records from k on: record k + j is the first that has the glyph, or none has it
   first_at : (n k j : ℕ) → j < n → ((i : ℕ) → k ≤ i → i < k + j → second_glyph set size i ≡ g → ⊥) → second_glyph set size (k + j) ≡ g
-      → first_with set size g k n ≡ some (pair_value_record size (k + j))
+      → first_with set size g k n ≡ Some (pair_value_record size (k + j))
   unfolding first_with
   first_at zero k j h before here = absurd (omega arith)
   first_at (suc n) k zero h before here =
@@ -43,7 +44,7 @@ module _ (set : List ℕ) (size g : ℕ) where
       let q : k + suc j ≡ suc k + j = omega arith in
       rw (e, q) (first_at n (suc k) j (omega arith) (λ i a b. before i (omega arith) (omega arith)) (rw q at here))
 
-  first_none : (n k : ℕ) → ((i : ℕ) → k ≤ i → i < k + n → second_glyph set size i ≡ g → ⊥) → first_with set size g k n ≡ none
+  first_none : (n k : ℕ) → ((i : ℕ) → k ≤ i → i < k + n → second_glyph set size i ≡ g → ⊥) → first_with set size g k n ≡ None
   unfolding first_with
   first_none zero k before = refl
   first_none (suc n) k before =
@@ -59,14 +60,14 @@ module _ (set : List ℕ) (size g : ℕ) where
     apart = record { low = λ j h l. omega arith; fair = λ j h l. omega arith; apart = λ i j h l m. up i j l (omega arith) }
 
     -- nothing is left in between
-    nowhere : (lo hi : ℕ) → Between span_of n g lo hi → hi ≤ lo → Nothing ≡ told (first_with set size g 0 n)
+    nowhere : (lo hi : ℕ) → Between span_of n g lo hi → hi ≤ lo → Err Nothing ≡ told (first_with set size g 0 n)
     nowhere lo hi b h =
         sym (ap told (first_none n 0 (λ i p q e.
         ⊎_elim (λ (w : i < hi). omega (arith, b.below i (omega arith))) (λ (w : hi ≤ i). omega (arith, b.above i w (omega arith)))
         (side i hi))))
 
     -- record m has the glyph
-    here : (m : ℕ) → m < n → second_glyph set size m ≤ g → g ≤ second_glyph set size m → Found (pair_value_record size m) ≡ told (first_with set size g 0 n)
+    here : (m : ℕ) → m < n → second_glyph set size m ≤ g → g ≤ second_glyph set size m → Ok (pair_value_record size m) ≡ told (first_with set size g 0 n)
     here m h a b =
         let z : 0 + m ≡ m = omega arith in
         let e : second_glyph set size (0 + m) ≡ g = rw z (omega arith) in
@@ -102,5 +103,5 @@ module _ (set : List ℕ) (size g : ℕ) where
       (at_start span_of n g)
 
   -- it finds what the plain reading finds
-  pub probe_means : 2 ≤ size → whole set size ≡ true → Ascending set size → found_at (probe set size g) ≡ plain set size g
-  probe_means wide e up = ap found_at (probe_told wide e up) ∙ told_back (plain set size g)
+  pub probe_means : 2 ≤ size → whole set size ≡ true → Ascending set size → result_ok (probe set size g) ≡ plain set size g
+  probe_means wide e up = ap result_ok (probe_told wide e up) ∙ told_back (plain set size g)

@@ -1,12 +1,12 @@
--- Laws of the PairPos subtable: what the check says of its bytes, and one equation of the check for each way through it. Assumes nothing.
+-- Laws of the PairPos subtable: what the check says of its bytes. Assumes nothing.
 use mathlib.Core.Path.{◌≡◌}
-use mathlib.Core.Bool.{true, false, ◌&&◌}
+use mathlib.Core.Bool.{true, ◌&&◌}
 use mathlib.Core.List.{List}
 use Prim.Native.Nat.{ℕ, ◌≤◌, ◌<◌}
 use native.Mathlib.Omega.{arith}
 use lib.Dec.{leb}
 use lib.ListN.{length}
-use borrow.Author.Tests.{eq-eqb, le-leb, leb-true, lt-leb, ne_eqb}
+use borrow.Author.Tests.{leb-true, ne_eqb}
 use Rattle.ints.specs.BigEndian.{nat_at}
 use Rattle.ints.proofs.TestLaws.{and_left, and_right}
 use Rattle.tables.specs.ClassDef.{class_good_at}
@@ -15,7 +15,6 @@ use Rattle.tables.specs.Header.{header_good, pos_format}
 use Rattle.tables.proofs.HeaderLaws.{Header, header}
 use Rattle.pair.specs.PairPos.{classes_good, value_format1, value_format2, pair_good}
 
--- ---- what a good subtable has
 -- a good subtable: not too long, its header whole, its value formats known, its coverage good, and its class lists where the format is 2
 pub record Good (t : List ℕ) : Type 0 where
   pub short : length t ≤ 65536
@@ -47,43 +46,3 @@ good t e =
       classes1 = λ n. and_left _ _ (lists n);
       classes2 = λ n. and_right (class_good_at t (nat_at 2 t 8)) _ (lists n);
     }
-
-module _ (t : List ℕ) where
-  -- ---- the check of the class lists: none in format 1, both good, the first bad
-  pub classes_none : pos_format t ≡ 1 → true ≡ classes_good t
-  unfolding classes_good
-  classes_none e = simp (eq-eqb (pos_format t) 1 e)
-
-  pub classes_both : (pos_format t ≡ 1 → ⊥) → true ≡ class_good_at t (nat_at 2 t 8) → class_good_at t (nat_at 2 t 10) ≡ classes_good t
-  unfolding classes_good
-  classes_both n e = simp (ne_eqb (pos_format t) 1 n, ← e)
-
-  pub classes_bad : (pos_format t ≡ 1 → ⊥) → false ≡ class_good_at t (nat_at 2 t 8) → false ≡ classes_good t
-  unfolding classes_good
-  classes_bad n e = simp (ne_eqb (pos_format t) 1 n, ← e)
-
-  -- ---- the whole check, one test after another
-  pub too_long : 65536 < length t → false ≡ pair_good t
-  unfolding pair_good
-  too_long h = simp (lt-leb (length t) 65536 h)
-
-  pub bad_header : length t ≤ 65536 → false ≡ header_good 10 16 t → false ≡ pair_good t
-  unfolding pair_good
-  bad_header h e = simp (le-leb (length t) 65536 h, ← e)
-
-  pub unknown_first : length t ≤ 65536 → true ≡ header_good 10 16 t → 255 < value_format1 t → false ≡ pair_good t
-  unfolding pair_good
-  unknown_first h e f = simp (le-leb (length t) 65536 h, ← e, lt-leb (value_format1 t) 255 f)
-
-  pub unknown_second : length t ≤ 65536 → true ≡ header_good 10 16 t → value_format1 t ≤ 255 → 255 < value_format2 t → false ≡ pair_good t
-  unfolding pair_good
-  unknown_second h e f g = simp (le-leb (length t) 65536 h, ← e, le-leb (value_format1 t) 255 f, lt-leb (value_format2 t) 255 g)
-
-  module _ (h : length t ≤ 65536) (e : true ≡ header_good 10 16 t) (f : value_format1 t ≤ 255) (g : value_format2 t ≤ 255) where
-    pub bad_coverage : false ≡ coverage_good_at t (nat_at 2 t 2) → false ≡ pair_good t
-    unfolding pair_good
-    bad_coverage c = simp (le-leb (length t) 65536 h, ← e, le-leb (value_format1 t) 255 f, le-leb (value_format2 t) 255 g, ← c)
-
-    pub by_classes : true ≡ coverage_good_at t (nat_at 2 t 2) → classes_good t ≡ pair_good t
-    unfolding pair_good
-    by_classes c = simp (le-leb (length t) 65536 h, ← e, le-leb (value_format1 t) 255 f, le-leb (value_format2 t) 255 g, ← c)

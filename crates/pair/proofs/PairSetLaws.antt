@@ -1,32 +1,33 @@
 -- Laws of the probe of a pair set: one step at a time, however many steps are left so long as they are enough. Assumes nothing.
 use mathlib.Core.Path.{◌≡◌, refl, ◌∙◌}
 use mathlib.Core.List.{List}
+use Rattle.std.specs.Prelude.{Result, Ok, Err}
 use Prim.Native.Nat.{ℕ, zero, suc, ◌+◌, ◌≤◌, ◌<◌}
 use native.Mathlib.Omega.{arith}
 use lib.ListN.{length}
 use borrow.Author.Tests.{le-ltb, lt-ltb}
 use Rattle.pair.specs.PairSet.{middle, probe_in, pair_value_record, second_glyph}
-use Rattle.pair.specs.declared.pair_set.Probe.{Probe}
-use Rattle.pair.specs.declared.pair_set.Probe.TheVariants.{Found, Nothing, Cut}
+use Rattle.pair.specs.declared.pair_set.Missed.{Missed}
+use Rattle.pair.specs.declared.pair_set.Missed.TheVariants.{Nothing, Cut}
 
 -- the whole answer is that of the records from lo up to hi
-pub record Left (set : List ℕ) (size g : ℕ) (all : Probe) (lo hi : ℕ) : Type 0 where
+pub record Left (set : List ℕ) (size g : ℕ) (all : Result ℕ Missed) (lo hi : ℕ) : Type 0 where
   pub steps : ℕ
   pub enough : hi ≤ lo + steps
   pub same : all ≡ probe_in steps set size g lo hi
 
 -- the probe of no records, of a middle that is cut, of one above the glyph, below it, and at it
 module _ (set : List ℕ) (size g n lo hi : ℕ) where
-  pub probe_over : hi ≤ lo → probe_in n set size g lo hi ≡ Nothing
+  pub probe_over : hi ≤ lo → probe_in n set size g lo hi ≡ Err Nothing
   unfolding probe_in
   probe_over h = go n
     where
-      go : (n : ℕ) → probe_in n set size g lo hi ≡ Nothing
+      go : (n : ℕ) → probe_in n set size g lo hi ≡ Err Nothing
       go zero = refl
       go (suc n) = simp (le-ltb lo hi h)
 
   module _ (h : lo < hi) where
-    pub probe_cut : length set < pair_value_record size (middle lo hi) + 2 → probe_in (suc n) set size g lo hi ≡ Cut
+    pub probe_cut : length set < pair_value_record size (middle lo hi) + 2 → probe_in (suc n) set size g lo hi ≡ Err Cut
     unfolding probe_in
     probe_cut c = simp (lt-ltb lo hi h, lt-ltb (length set) (pair_value_record size (middle lo hi) + 2) c)
 
@@ -48,7 +49,7 @@ module _ (set : List ℕ) (size g n lo hi : ℕ) where
           )
 
       pub probe_hit : second_glyph set size (middle lo hi) ≤ g → g ≤ second_glyph set size (middle lo hi)
-          → probe_in (suc n) set size g lo hi ≡ Found (pair_value_record size (middle lo hi))
+          → probe_in (suc n) set size g lo hi ≡ Ok (pair_value_record size (middle lo hi))
       unfolding probe_in
       probe_hit a b =
           simp (
@@ -59,8 +60,8 @@ module _ (set : List ℕ) (size g n lo hi : ℕ) where
           )
 
 -- the same of the whole answer, as the loop goes
-module _ {set : List ℕ} {size g lo hi : ℕ} {all : Probe} (l : Left set size g all lo hi) where
-  pub over : hi ≤ lo → all ≡ Nothing
+module _ {set : List ℕ} {size g lo hi : ℕ} {all : Result ℕ Missed} (l : Left set size g all lo hi) where
+  pub over : hi ≤ lo → all ≡ Err Nothing
   over h = l.same ∙ probe_over set size g l.steps lo hi h
 
   module _ (h : lo < hi) where
@@ -72,7 +73,7 @@ module _ {set : List ℕ} {size g lo hi : ℕ} {all : Probe} (l : Left set size 
         go zero e q = absurd (omega arith)
         go (suc n) e q = f n e q
 
-    pub cut : length set < pair_value_record size (middle lo hi) + 2 → all ≡ Cut
+    pub cut : length set < pair_value_record size (middle lo hi) + 2 → all ≡ Err Cut
     cut c = step (λ n e q. q ∙ probe_cut set size g n lo hi h c)
 
     module _ (w : pair_value_record size (middle lo hi) + 2 ≤ length set) where
@@ -82,5 +83,5 @@ module _ {set : List ℕ} {size g lo hi : ℕ} {all : Probe} (l : Left set size 
       pub up : second_glyph set size (middle lo hi) < g → Left set size g all (middle lo hi + 1) hi
       up b = step (λ n e q. record { steps = n; enough = omega arith; same = q ∙ probe_up set size g n lo hi h w b })
 
-      pub hit : second_glyph set size (middle lo hi) ≤ g → g ≤ second_glyph set size (middle lo hi) → all ≡ Found (pair_value_record size (middle lo hi))
+      pub hit : second_glyph set size (middle lo hi) ≤ g → g ≤ second_glyph set size (middle lo hi) → all ≡ Ok (pair_value_record size (middle lo hi))
       hit a b = step (λ n e q. q ∙ probe_hit set size g n lo hi h w a b)

@@ -1,5 +1,5 @@
 -- All that pair adjustment may say, by the plan's cases: a property that holds of each holds of what it says. Assumes nothing.
-use Rattle.std.specs.Prelude.{if◌then◌else◌}
+use Rattle.std.specs.Prelude.{None, Option, Some, Result, Ok, Err, if◌then◌else◌}
 use mathlib.Core.Path.{◌≡◌, refl}
 use mathlib.Core.Bool.{Bool, true, false, ◌&&◌}
 use mathlib.Core.List.{List, [], ◌∷◌}
@@ -10,8 +10,6 @@ use Rattle.slots.specs.Slot.{Slot}
 use Rattle.slots.specs.Line.{slot}
 use Rattle.slots.specs.declared.axis.Direction.{Direction}
 use Rattle.tables.specs.Header.{pos_format}
-use Rattle.tables.specs.declared.coverage.Covered.{Covered}
-use Rattle.tables.specs.declared.coverage.Covered.TheVariants.{Index, Not}
 use Rattle.answers.specs.Said.{applied, declined, Range, Said}
 use Rattle.answers.specs.declared.Neighbour.{Neighbour}
 use Rattle.answers.specs.declared.Neighbour.TheVariants.{Named, Missing}
@@ -19,8 +17,8 @@ use Rattle.pair.specs.Adjustment.{either_worked, has_second, pair_said, plan_sai
 use Rattle.pair.specs.PairPos.{class_record, first_class, class1_count, first_index, pair_length, pair_set, second_class, class2_count}
 use Rattle.pair.specs.PairSet.{probe}
 use Rattle.pair.specs.Plan.{Plan, adjust, after_classes, after_covered, after_neighbour, after_probe, after_set, plan_of}
-use Rattle.pair.specs.declared.pair_set.Probe.{Probe}
-use Rattle.pair.specs.declared.pair_set.Probe.TheVariants.{Found, Nothing, Cut}
+use Rattle.pair.specs.declared.pair_set.Missed.{Missed}
+use Rattle.pair.specs.declared.pair_set.Missed.TheVariants.{Nothing, Cut}
 
 module _ (P : Said → Type 0) (d : Direction) (t : List ℕ) (ss : List Slot) (idx : ℕ) (n : Neighbour)
     (declines : P (declined []))
@@ -41,10 +39,10 @@ module _ (P : Said → Type 0) (d : Direction) (t : List ℕ) (ss : List Slot) (
         go true = both second named _ _
         go false = first second named _
 
-    probes : (set : List ℕ) (found : Probe) → P (plan_said d t idx (after_probe idx second set found))
-    probes set (Found at) = adjusts set (at + 2)
-    probes set Nothing = misses _
-    probes set Cut = declines
+    probes : (set : List ℕ) (found : Result ℕ Missed) → P (plan_said d t idx (after_probe idx second set found))
+    probes set (Ok at) = adjusts set (at + 2)
+    probes set (Err Nothing) = misses _
+    probes set (Err Cut) = declines
 
     sets : (g : ℕ) (set : List ℕ) → P (plan_said d t idx (after_set t idx second g set))
     sets g set = either (ltb (length set) 2) _ _ declines (probes set (probe set (2 + pair_length t) g))
@@ -58,9 +56,9 @@ module _ (P : Said → Type 0) (d : Direction) (t : List ℕ) (ss : List Slot) (
       (classes second named (first_class t (slot ss idx).glyph) (second_class t (slot ss second).glyph))
   neighbour k (Missing e) named = misses _
 
-  covered : (c : Covered) → P (plan_said d t idx (after_covered t ss idx n c))
-  covered (Index k) = neighbour k n refl
-  covered Not = declines
+  covered : (c : (Option ℕ)) → P (plan_said d t idx (after_covered t ss idx n c))
+  covered (Some k) = neighbour k n refl
+  covered None = declines
 
   pub says : P (plan_said d t idx (plan_of t ss idx n))
   unfolding plan_of

@@ -4,13 +4,12 @@
 --   format 2: uint16 posFormat, Offset16 coverageOffset, uint16 valueFormat1, valueFormat2, Offset16 classDef1Offset,
 --     classDef2Offset, uint16 class1Count, class2Count, class1Records[class1Count], each of class2Records[class2Count],
 --     each of a value record by valueFormat1 and one by valueFormat2
-use Rattle.std.specs.Prelude.{Bool, true, ◌&&◌, List, ℕ, ◌+◌, ◌*◌, eqb, leb, length, if◌then◌else◌}
+use Rattle.std.specs.Prelude.{Bool, true, ◌&&◌, List, ℕ, ◌+◌, ◌*◌, eqb, leb, length, if◌then◌else◌, Option}
 use Rattle.ints.specs.BigEndian.{u16_at}
 use Rattle.tables.specs.ClassDef.{class_at, class_good_at}
 use Rattle.tables.specs.Coverage.{coverage_at, coverage_good_at}
 use Rattle.tables.specs.Header.{coverage_offset, header_good, most_bytes, pos_format}
 use Rattle.tables.specs.Part.{child_of}
-use Rattle.tables.specs.declared.coverage.Covered.{Covered}
 use Rattle.values.specs.Format.{record_length}
 use Rattle.pair.specs.PairSet.{second_glyph_size}
 
@@ -66,7 +65,7 @@ pair_good t =
     && (leb (value_format2 t) 255 && (coverage_good_at t (coverage_offset t) && classes_good t))))
 
 -- the coverage index of a first glyph
-abbrev pub first_index : List ℕ → ℕ → Covered
+abbrev pub first_index : List ℕ → ℕ → Option ℕ
 first_index t g = coverage_at t (coverage_offset t) g
 
 -- the bytes of the two value records together

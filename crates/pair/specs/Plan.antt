@@ -1,18 +1,16 @@
 -- Which record a pair has. Assumes nothing.
-use Rattle.std.specs.Prelude.{◌&&◌, List, [], ◌∷◌, ℕ, ◌+◌, eqb, leb, ltb, length, if◌then◌else◌}
+use Rattle.std.specs.Prelude.{None, Option, Some, Result, Ok, Err, ◌&&◌, List, [], ◌∷◌, ℕ, ◌+◌, eqb, leb, ltb, length, if◌then◌else◌}
 use Rattle.slots.specs.Slot.{Slot}
 use Rattle.slots.specs.Line.{slot}
 use Rattle.tables.specs.Header.{pos_format}
-use Rattle.tables.specs.declared.coverage.Covered.{Covered}
-use Rattle.tables.specs.declared.coverage.Covered.TheVariants.{Index, Not}
 use Rattle.answers.specs.Said.{Range, unsafe_to_concat}
 use Rattle.answers.specs.declared.Neighbour.{Neighbour}
 use Rattle.answers.specs.declared.Neighbour.TheVariants.{Named, Missing}
 use Rattle.pair.specs.PairPos.{class1_count, class2_count, class_record, first_class, first_index, second_class}
 use Rattle.pair.specs.PairPos.{pair_length, pair_set, pair_value_record_size}
 use Rattle.pair.specs.PairSet.{pair_value_records, probe, second_glyph_size}
-use Rattle.pair.specs.declared.pair_set.Probe.{Probe}
-use Rattle.pair.specs.declared.pair_set.Probe.TheVariants.{Found, Nothing, Cut}
+use Rattle.pair.specs.declared.pair_set.Missed.{Missed}
+use Rattle.pair.specs.declared.pair_set.Missed.TheVariants.{Nothing, Cut}
 
 -- what is to be done with a pair
 pub data Plan : Type 0 where
@@ -27,10 +25,10 @@ missed idx second = stop (unsafe_to_concat idx (second + 1) ∷ [])
 
 -- format 1: what the probe of the set found; the values follow the second glyph. A set that proves to be cut declines
 -- without hazard, as one that is absent does.
-abbrev pub after_probe : ℕ → ℕ → List ℕ → Probe → Plan
-after_probe idx second set (Found at) = adjust set (at + second_glyph_size) second
-after_probe idx second set Nothing = missed idx second
-after_probe idx second set Cut = stop []
+abbrev pub after_probe : ℕ → ℕ → List ℕ → Result ℕ Missed → Plan
+after_probe idx second set (Ok at) = adjust set (at + second_glyph_size) second
+after_probe idx second set (Err Nothing) = missed idx second
+after_probe idx second set (Err Cut) = stop []
 
 -- format 1: the set is probed; one that is absent, or cut before its count, declines without hazard
 abbrev pub after_set : List ℕ → ℕ → ℕ → ℕ → List ℕ → Plan
@@ -58,9 +56,9 @@ after_neighbour t ss idx k (Named second) = after_second t ss idx k second
 after_neighbour t ss idx k (Missing e) = stop (unsafe_to_concat idx e ∷ [])
 
 -- coverage comes first: an uncovered first glyph declines without hazard, also when the second is missing
-abbrev pub after_covered : List ℕ → List Slot → ℕ → Neighbour → Covered → Plan
-after_covered t ss idx n (Index k) = after_neighbour t ss idx k n
-after_covered t ss idx n Not = stop []
+abbrev pub after_covered : List ℕ → List Slot → ℕ → Neighbour → Option ℕ → Plan
+after_covered t ss idx n (Some k) = after_neighbour t ss idx k n
+after_covered t ss idx n None = stop []
 
 -- the plan for slot idx and the neighbour that the caller names
 unfoldable pub plan_of : List ℕ → List Slot → ℕ → Neighbour → Plan

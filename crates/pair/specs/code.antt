@@ -1,1 +1,2 @@
-pub mod Meant  -- what code's values stand for, and the bounds that code leans on
+pub mod Bounds  -- the bounds that code leans on
+pub mod Meant  -- what code's values stand for

@@ -1,7 +1,7 @@
 // The PairSet table: the probe for a second glyph, directly in its bytes.
-ghost use Rattle.std.specs.Prelude.{◌≡◌, ◌≤◌, ◌<◌, length};
+ghost use Rattle.std.specs.Prelude.{◌≡◌, ◌≤◌, ◌<◌, length, IfOk};
 ghost use Rattle.pair.specs.PairSet.{pair_value_records, probe};
-ghost use Rattle.pair.specs.code.Meant.{ProbeSmall};
+ghost use Rattle.pair.specs.code.Bounds.{found_end};
 
 use ints::big_endian::read_u16;
 
@@ -13,22 +13,21 @@ pub const PAIR_VALUE_RECORDS: usize = 2;
 // A record starts with its second glyph; the value records follow it.
 pub const SECOND_GLYPH_SIZE: usize = 2;
 
-// What a probe comes to.
+// Why a pair has no record.
 #[derive(Clone, Copy)]
-pub enum Probe {
-    // The record of the second glyph starts here.
-    Found(usize),
-    // No record has it.
+pub enum Missed {
+    // The glyphs have none.
     Nothing,
-    // The probe met a record that is cut.
+    // The probe met a record that is cut, or the set is.
     Cut,
 }
 
-// The record of a second glyph, among records of `size` bytes, by halves. The set needn't be whole: a record before a
-// cut may be found, as in the source's PairPos1, whereas its PairKern1 wants the whole set.
-pub fn probe_for(set: &[u8], size: usize, glyph: u32) -> Probe
+// Where the record of a second glyph starts, among records of `size` bytes, by halves. The set needn't be whole: a
+// record before a cut may be found, as in the source's PairPos1, whereas its PairKern1 wants the whole set.
+// By hand: the library searches items of a constant size, and all of a slice; here a cut record ends the search.
+pub fn probe_for(set: &[u8], size: usize, glyph: u32) -> Result<usize, Missed>
     requires { (pair_value_records ≤ length set.now) × (size ≤ 34) }
-    ensures { (result ≡ probe set.now size glyph) × ProbeSmall result }
+    ensures { (result ≡ probe set.now size glyph) × IfOk result (λ at. at < found_end) }
 {
     let mut lo = 0;
     let mut hi = read_u16(set, PAIR_VALUE_COUNT) as usize;
@@ -37,7 +36,7 @@ pub fn probe_for(set: &[u8], size: usize, glyph: u32) -> Probe
         let mid = (lo + hi) / 2;
         let at = PAIR_VALUE_RECORDS + size * mid;
         if set.len() < at + SECOND_GLYPH_SIZE {
-            return Probe::Cut;
+            return Err(Missed::Cut);
         }
         let here = read_u16(set, at);
         if glyph < here {
@@ -45,8 +44,8 @@ pub fn probe_for(set: &[u8], size: usize, glyph: u32) -> Probe
         } else if here < glyph {
             lo = mid + 1;
         } else {
-            return Probe::Found(at);
+            return Ok(at);
         }
     }
-    Probe::Nothing
+    Err(Missed::Nothing)
 }

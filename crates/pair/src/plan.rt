@@ -1,161 +1,103 @@
-// Which record a pair has; applying it is another matter.
-ghost use Rattle.std.specs.Prelude.{true, ◌≡◌, ◌≤◌, ◌<◌, drop, length};
+// Which records a pair has; applying them is another matter.
+ghost use Rattle.std.specs.Prelude.{ℕ, ◌≡◌, ◌<◌, IfOk};
 ghost use Rattle.ints.specs.Limits.{whole16};
 ghost use Rattle.slots.specs.code.Shape.{Inside};
 ghost use Rattle.slots.specs.Line.{slots};
 ghost use Rattle.tables.specs.Header.{pos_format};
-ghost use Rattle.tables.specs.Part.{table_at};
-ghost use Rattle.pair.specs.PairPos.{pair_good, pair_set};
-ghost use Rattle.pair.specs.Plan.{after_classes, after_neighbour, after_probe, after_second, after_set};
-ghost use Rattle.pair.specs.code.Meant.{After, meant, ProbeSmall, Sound};
+ghost use Rattle.pair.specs.PairPos.{pair_set};
+ghost use Rattle.pair.specs.Plan.{after_classes, after_neighbour, after_second, after_set};
+ghost use Rattle.pair.specs.code.Meant.{After, found_plan, meant};
 
-use crate::pair_pos::{
-    CLASS_DEF1_OFFSET, CLASS_DEF2_OFFSET, CLASS1_COUNT, CLASS1_RECORDS, CLASS2_COUNT,
-    PAIR_SET_COUNT, PAIR_SET_OFFSETS, pair_length,
-};
-use crate::pair_set::{PAIR_VALUE_RECORDS, Probe, SECOND_GLYPH_SIZE, probe_for};
+use crate::pair_pos::{CLASS1_RECORDS, PairPos};
+use crate::pair_set::{Missed, PAIR_VALUE_RECORDS, SECOND_GLYPH_SIZE, probe_for};
+use crate::records::Records;
 use answers::{Hazards, Neighbour, miss};
-use ints::big_endian::read_u16;
+use slots::fields::glyph;
 use slots::shape::Shape;
-use tables::header::POS_FORMAT;
-use tables::part::OFFSET_SIZE;
 
-// What is to be done with a pair.
+// What is to be applied: of these records the first to the slot that is positioned, the second to the slot `second`.
 #[derive(Clone, Copy)]
-pub enum Plan {
-    // Nothing, but a hazard to report.
-    Stop(Hazards),
-    // The two value records that start at byte `at` of the table at an offset of the subtable are to be applied, the
-    // second one to the slot `second`.
-    Adjust {
-        offset: usize,
-        at: usize,
-        second: usize,
-    },
+pub struct Adjust<'a> {
+    pub records: Records<'a>,
+    pub second: usize,
 }
 
 // A covered first glyph, of coverage index k: the pair with the slot that the caller names. Where none follows, another
-// glyph up to the bound that it names instead might have paired, which is a hazard.
-pub fn after_neighbour(
+// glyph up to the bound that it names instead might have paired, which is a hazard; so is a pair without records, as
+// another second glyph might have some. A set that is absent or cut declines without hazard.
+pub fn after_neighbour<'a>(
     line: &[u8],
     shape: Shape,
-    t: &[u8],
+    t: PairPos<'a>,
     idx: usize,
     k: usize,
     neighbour: Neighbour,
-) -> Plan
-    requires { (pair_good t.now ≡ true) × Inside shape line.now idx × After shape.count idx neighbour }
-    ensures { (meant t.now result
-        ≡ after_neighbour t.now (slots shape line.now) idx k neighbour)
-        × Sound t.now shape.count idx result }
+) -> Result<Adjust<'a>, Hazards>
+    requires { Inside shape line.now idx × After shape.count idx neighbour }
+    ensures { (meant result ≡ after_neighbour t.entry.bytes.now (slots shape line.now) idx k neighbour)
+        × IfOk result (λ a. (idx < a.second) × (a.second < shape.count)) }
 {
     match neighbour {
-        Neighbour::Named(second) => after_second(line, shape, t, idx, k, second),
-        Neighbour::Missing(e) => Plan::Stop(miss(idx, e)),
+        Neighbour::Missing(e) => Err(miss(idx, e)),
+        Neighbour::Named(second) => match after_second(line, shape, t, idx, k, second) {
+            Ok(records) => Ok(Adjust { records, second }),
+            Err(Missed::Nothing) => Err(miss(idx, second + 1)),
+            Err(Missed::Cut) => Err(Hazards::None),
+        },
     }
 }
 
 // Both glyphs are there: in format 1 the coverage index has a pair set, in format 2 each glyph has a class.
-fn after_second(line: &[u8], shape: Shape, t: &[u8], idx: usize, k: usize, second: usize) -> Plan
-    requires { (pair_good t.now ≡ true) × (idx < second) × Inside shape line.now second }
-    ensures { (meant t.now result
-        ≡ after_second t.now (slots shape line.now) idx k second)
-        × Sound t.now shape.count idx result }
+#[tactic(auto, using(crate::proofs::PairPosLaws::good))]
+fn after_second<'a>(
+    line: &[u8],
+    shape: Shape,
+    t: PairPos<'a>,
+    idx: usize,
+    k: usize,
+    second: usize,
+) -> Result<Records<'a>, Missed>
+    requires { Inside shape line.now idx × Inside shape line.now second }
+    ensures { found_plan idx second result
+        ≡ after_second t.entry.bytes.now (slots shape line.now) idx k second }
 {
-    let n = shape.count;
-    let glyph = slots::fields::glyph(line, shape, second);
-    if read_u16(t, POS_FORMAT) == 1 {
-        return after_set(t, k, n, idx, second, glyph);
+    let second_glyph = glyph(line, shape, second);
+    if t.format() == 1 {
+        return after_set(t, k, second_glyph);
     }
-    let c1 = tables::class_def::class_at(
-        t,
-        read_u16(t, CLASS_DEF1_OFFSET) as usize,
-        slots::fields::glyph(line, shape, idx),
-    );
-    let c2 = tables::class_def::class_at(t, read_u16(t, CLASS_DEF2_OFFSET) as usize, glyph);
-    after_classes(t, n, idx, second, c1, c2)
+    let c1 = t.first_class(glyph(line, shape, idx));
+    after_classes(t, c1, t.second_class(second_glyph))
 }
 
-// Format 1: the set of coverage index k, probed for the second glyph. A set that is absent, or cut before its count,
-// declines without hazard. The line has n slots.
-fn after_set(t: &[u8], k: usize, n: usize, idx: usize, second: usize, glyph: u32) -> Plan
-    requires { (pair_good t.now ≡ true) × (pos_format t.now ≡ 1) × (idx < second) × (second < n) }
-    ensures { (meant t.now result
-        ≡ after_set t.now idx second glyph (pair_set t.now k))
-        × Sound t.now n idx result }
+// Format 1: the set of coverage index k, probed for the second glyph, which the value records follow. The set may be
+// absent, or cut before its count.
+fn after_set<'a>(t: PairPos<'a>, k: usize, glyph: u32) -> Result<Records<'a>, Missed>
+    requires { pos_format t.bytes.now ≡ 1 }
+    ensures { (idx second : ℕ) → found_plan idx second result
+        ≡ after_set t.entry.bytes.now idx second glyph (pair_set t.entry.bytes.now k) }
 {
-    let off = set_offset(t, k);
-    let set = tables::part::table_at(t, off);
-    if set.len() < PAIR_VALUE_RECORDS {
-        return Plan::Stop(Hazards::None);
+    let table = t.pair_set(k);
+    if table.len() < PAIR_VALUE_RECORDS {
+        return Err(Missed::Cut);
     }
-    after_probe(
-        t,
-        off,
-        n,
-        idx,
-        second,
-        probe_for(set, SECOND_GLYPH_SIZE + pair_length(t), glyph),
-    )
+    let record = probe_for(table, SECOND_GLYPH_SIZE + t.pair_length(), glyph)?;
+    let at = record + SECOND_GLYPH_SIZE;
+    Ok(Records { table, at })
 }
 
-// The offset of the pair set of a coverage index, 0 where there is none.
-fn set_offset(t: &[u8], k: usize) -> usize
-    requires { (pair_good t.now ≡ true) × (pos_format t.now ≡ 1) }
-    ensures { (table_at t.now result ≡ pair_set t.now k) × (result < whole16) }
+// Format 2: the records of two classes. A class outside its count matches nothing, as in HarfBuzz; nor does one whose
+// records are cut.
+#[tactic(auto, using(crate::proofs::PairPosLaws::good))]
+fn after_classes<'a>(t: PairPos<'a>, c1: u32, c2: u32) -> Result<Records<'a>, Missed>
+    requires { (pos_format t.bytes.now ≡ 2) × (c1 < whole16) × (c2 < whole16) }
+    ensures { (idx second : ℕ) → found_plan idx second result
+        ≡ after_classes t.entry.bytes.now idx second c1 c2 }
 {
-    if (read_u16(t, PAIR_SET_COUNT) as usize) <= k {
-        return 0;
+    let seconds = t.class2_count();
+    let size = t.pair_length();
+    let at = CLASS1_RECORDS + size * (c1 as usize * seconds as usize + c2 as usize);
+    if t.class1_count() <= c1 || seconds <= c2 || t.bytes.len() < at + size {
+        return Err(Missed::Nothing);
     }
-    let at = PAIR_SET_OFFSETS + OFFSET_SIZE * k;
-    if t.len() < at + OFFSET_SIZE {
-        return 0;
-    }
-    read_u16(t, at) as usize
-}
-
-// What the probe of the set at an offset comes to. The value records follow the second glyph of the record that it
-// found. Where no record has the second glyph, another one might have been found, which is a hazard. A set that proves
-// to be cut declines without hazard, as one that is absent does. The line has n slots.
-fn after_probe(t: &[u8], off: usize, n: usize, idx: usize, second: usize, found: Probe) -> Plan
-    requires { (off ≤ length t.now) × (idx < second) × (second < n) × ProbeSmall found }
-    ensures { (meant t.now result ≡ after_probe idx second (drop off t.now) found)
-        × Sound t.now n idx result }
-{
-    match found {
-        Probe::Found(at) => Plan::Adjust {
-            offset: off,
-            at: at + SECOND_GLYPH_SIZE,
-            second: second,
-        },
-        Probe::Nothing => Plan::Stop(miss(idx, second + 1)),
-        Probe::Cut => Plan::Stop(Hazards::None),
-    }
-}
-
-// Format 2: the record of two classes. A class outside its count matches nothing, as in HarfBuzz; this and a record
-// that is cut are misses. The line has n slots.
-fn after_classes(t: &[u8], n: usize, idx: usize, second: usize, c1: u32, c2: u32) -> Plan
-    requires { (pair_good t.now ≡ true) × (pos_format t.now ≡ 2) × (idx < second) × (second < n)
-        × (c1 < whole16) × (c2 < whole16) }
-    ensures { (meant t.now result ≡ after_classes t.now idx second c1 c2)
-        × Sound t.now n idx result }
-{
-    let seconds = read_u16(t, CLASS2_COUNT);
-    if read_u16(t, CLASS1_COUNT) <= c1 {
-        return Plan::Stop(miss(idx, second + 1));
-    }
-    if seconds <= c2 {
-        return Plan::Stop(miss(idx, second + 1));
-    }
-    let size = pair_length(t);
-    let at = CLASS1_RECORDS + size * ((c1 as usize) * (seconds as usize) + c2 as usize);
-    if t.len() < at + size {
-        return Plan::Stop(miss(idx, second + 1));
-    }
-    Plan::Adjust {
-        offset: 0,
-        at: at,
-        second: second,
-    }
+    Ok(Records { table: t.bytes, at })
 }

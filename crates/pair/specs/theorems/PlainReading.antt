@@ -1,16 +1,13 @@
 -- The plain reading of a pair set that is whole and ascending: no contract speaks of it, the theorem of `Meaning` says
 -- that the probe finds the same. Assumes nothing.
-use Rattle.std.specs.Prelude.{Bool, ◌&&◌, List, ℕ, zero, suc, ◌<◌, eqb, leb, length, if◌then◌else◌}
-use Rattle.std.proofs.Math.Option.{Option, some, none}
+use Rattle.std.specs.Prelude.{None, Option, Some, Bool, ◌&&◌, List, ℕ, zero, suc, ◌<◌, eqb, leb, length, if◌then◌else◌}
 use Rattle.pair.specs.PairSet.{pair_value_count, pair_value_records, pair_value_record, second_glyph}
-use Rattle.pair.specs.declared.pair_set.Probe.{Probe}
-use Rattle.pair.specs.declared.pair_set.Probe.TheVariants.{Found, Nothing, Cut}
 
 -- where the first of the records from k on, n of them, is that has the second glyph
 unfoldable pub first_with : List ℕ → ℕ → ℕ → ℕ → ℕ → Option ℕ
-first_with set size g k zero = none
+first_with set size g k zero = None
 first_with set size g k (suc n) =
-    if eqb (second_glyph set size k) g then some (pair_value_record size k) else first_with set size g (suc k) n
+    if eqb (second_glyph set size k) g then Some (pair_value_record size k) else first_with set size g (suc k) n
 
 -- the same of all records
 abbrev pub plain : List ℕ → ℕ → ℕ → Option ℕ
@@ -23,9 +20,3 @@ whole set size = leb pair_value_records (length set) && leb (pair_value_record s
 -- the second glyphs strictly ascend
 abbrev pub Ascending : List ℕ → ℕ → Type 0
 Ascending set size = (i j : ℕ) → i < j → j < pair_value_count set → second_glyph set size i < second_glyph set size j
-
--- what a probe found
-abbrev pub found_at : Probe → Option ℕ
-found_at (Found at) = some at
-found_at Nothing = none
-found_at Cut = none
