@@ -1,4 +1,5 @@
 -- Laws of the next covered place: the steps of the search for it, where it is, and that the call of a glyph that isn't covered declines. Assumes nothing.
+use Rattle.std.specs.Prelude.{None, Option, Some}
 use mathlib.Core.Path.{◌≡◌, refl, sym, ap, subst, ◌∙◌}
 use mathlib.Core.Bool.{Bool, true, false}
 use mathlib.Core.List.{List, []}
@@ -10,11 +11,10 @@ use lib.Dec.{ltb}
 use lib.ListN.{get_or, length, take}
 use Rattle.slots.specs.Axis.{cross}
 use Rattle.slots.specs.Slot.{Slot}
+use Rattle.slots.proofs.LineLaws.{length_slots}
 use Rattle.slots.specs.declared.axis.Axis.{Axis}
 use Rattle.slots.specs.declared.axis.Direction.{Direction}
 use Rattle.tables.specs.Header.{coverage_offset}
-use Rattle.tables.specs.declared.coverage.Covered.{Covered}
-use Rattle.tables.specs.declared.coverage.Covered.TheVariants.{Index, Not}
 use Rattle.answers.specs.Said.{declined}
 use Rattle.answers.specs.declared.Neighbour.{Neighbour}
 use Rattle.single.specs.SinglePos.{adjust_said, place_for, single_said, value_place}
@@ -33,9 +33,8 @@ use Rattle.marks.specs.Plan.{after_covered as mark·afterCovered, plan_of as mar
 use Rattle.lookup.specs.Kinds.{good_for}
 use Rattle.lookup.specs.Subtables.{every, subtable, subtables, total}
 use Rattle.lookup.specs.code.Calls.{call_for}
-use Rattle.lookup.specs.code.Covered.{AllReadable, cover_at, next_place, place_by, place_in, Readable, steps_from}
+use Rattle.lookup.specs.code.Covered.{AllReadable, cover_at, next_place, place, place_by, place_in, Readable, steps_from}
 use Rattle.lookup.specs.declared.covered.Place.{Place}
-use Rattle.lookup.specs.declared.covered.Place.TheVariants.{At, Nowhere}
 use Rattle.lookup.specs.declared.kinds.Kind.{Kind}
 use Rattle.lookup.specs.declared.kinds.Kind.TheVariants.{Single, Pair, Cursive, MarkBase, MarkLigature, MarkMark}
 use Rattle.lookup.proofs.SubtableLaws.{cut, cut_inside, cut_is, one_good, total_next, total_none}
@@ -66,7 +65,7 @@ module _ (ss : List Slot) (b lengths : List ℕ) (i k : ℕ) where
     unfolding place_in
     in_slot n h e = rw (lt-ltb i (length ss) h, le-ltb k c e)
 
-    in_end : (n : ℕ) → length ss ≤ i → place_in ss b lengths n i k start ≡ Nowhere
+    in_end : (n : ℕ) → length ss ≤ i → place_in ss b lengths n i k start ≡ None
     unfolding place_in
     in_end zero h = refl
     in_end (suc n) h = rw (le-ltb i (length ss) h)
@@ -78,7 +77,7 @@ module _ (ss : List Slot) (b lengths : List ℕ) (i k : ℕ) where
     pub place_slot : i < length ss → c ≤ k → next_place ss b lengths i k start ≡ next_place ss b lengths (i + 1) 0 0
     place_slot h e = ap (λ (n : ℕ). place_in ss b lengths n i k start) (steps_slot h e) ∙ in_slot (steps_from ss b lengths (i + 1) 0) h e
 
-    pub place_end : length ss ≤ i → next_place ss b lengths i k start ≡ Nowhere
+    pub place_end : length ss ≤ i → next_place ss b lengths i k start ≡ None
     place_end h = in_end (steps_from ss b lengths i k) h
 
 -- ---- what the search keeps: it has come from slot i₀ and subtable k₀ to slot i and subtable k, which starts at byte start
@@ -99,35 +98,45 @@ module _ {ss : List Slot} {b lengths : List ℕ} {i₀ k₀ start₀ i k start :
     readable all = subst Readable (sym part_is) (all k h)
 
     -- by what code found of the glyph in it
-    module _ (below : i < length ss) {c : Covered} (is : c ≡ cover_at (cut lengths b k start) ss i) where
-      found : next_place ss b lengths i₀ k₀ start₀ ≡ place_by i k start (next_place ss b lengths i (k + 1) (start + get_or lengths k 0)) c
+    module _ (below : i < length ss) {c : Option ℕ} (is : c ≡ cover_at (cut lengths b k start) ss i) where
+      abbrev farther : Option Place
+      farther = next_place ss b lengths i (k + 1) (start + get_or lengths k 0)
+
+      found : next_place ss b lengths i₀ k₀ start₀ ≡ place_by i k start farther c
       found =
           now.same ∙ place_here ss b lengths i k start below h
-          ∙ ap (place_by i k start (next_place ss b lengths i (k + 1) (start + get_or lengths k 0))) (ap (λ (t : List ℕ). cover_at t ss i) (sym part_is) ∙ sym is)
+          ∙ ap (place_by i k start farther) (ap (λ (t : List ℕ). cover_at t ss i) (sym part_is) ∙ sym is)
 
-      pub found_here : (m : ℕ) → c ≡ Index m → At i k start m ≡ next_place ss b lengths i₀ k₀ start₀
-      found_here m e = sym (found ∙ ap (place_by i k start (next_place ss b lengths i (k + 1) (start + get_or lengths k 0))) e)
+      pub found_here : (m : ℕ) → c ≡ Some m → next_place ss b lengths i₀ k₀ start₀ ≡ Some (place i k start m)
+      found_here m e = found ∙ ap (place_by i k start farther) e
 
-      pub not_here : c ≡ Not → Searching ss b lengths i₀ k₀ start₀ i (k + 1) (start + get_or lengths k 0)
+      pub not_here : c ≡ None → Searching ss b lengths i₀ k₀ start₀ i (k + 1) (start + get_or lengths k 0)
       not_here e =
           record {
             within = omega arith;
             start_is = omega (arith, now.start_is, total_next lengths k h);
-            same = found ∙ ap (place_by i k start (next_place ss b lengths i (k + 1) (start + get_or lengths k 0))) e;
+            same = found ∙ ap (place_by i k start farther) e;
           }
 
-  pub next_slot : i < length ss → length lengths ≤ k → Searching ss b lengths i₀ k₀ start₀ (i + 1) 0 0
-  next_slot below h = record { within = omega arith; start_is = total_none lengths; same = now.same ∙ place_slot ss b lengths i k start below h }
+  -- behind the last subtable comes the next slot
+  pub slot_over : i < length ss → length lengths ≤ k → next_place ss b lengths i₀ k₀ start₀ ≡ next_place ss b lengths (i + 1) 0 0
+  slot_over below h = now.same ∙ place_slot ss b lengths i k start below h
 
-  pub at_end_lem : length ss ≤ i → Nowhere ≡ next_place ss b lengths i₀ k₀ start₀
-  at_end_lem h = sym (now.same ∙ place_end ss b lengths i k start h)
+  pub next_slot : next_place ss b lengths i k start ≡ next_place ss b lengths (i + 1) 0 0 → Searching ss b lengths i₀ k₀ start₀ (i + 1) 0 0
+  next_slot e = record { within = omega arith; start_is = total_none lengths; same = now.same ∙ e }
+
+  pub line_over : length ss ≤ i → next_place ss b lengths i₀ k₀ start₀ ≡ None
+  line_over h = now.same ∙ place_end ss b lengths i k start h
+
+-- what each step of the search takes
+pub ruleset of_search = (inside, readable, found_here, not_here, slot_over, next_slot, line_over, length_slots)
 
 -- ---- what holds of every next covered place: by the steps that lead to it
-module _ (ss : List Slot) (b lengths : List ℕ) (P : (i k : ℕ) → Place → Type 0)
-    (here : (i k m : ℕ) → i < length ss → k < length lengths → cover_at (subtable lengths b k) ss i ≡ Index m → P i k (At i k (total (take k lengths)) m))
-    (passed : (i k : ℕ) (p : Place) → i < length ss → k < length lengths → cover_at (subtable lengths b k) ss i ≡ Not → P i (k + 1) p → P i k p)
-    (slot_passed : (i k : ℕ) (p : Place) → i < length ss → k ≡ length lengths → P (i + 1) 0 p → P i k p)
-    (line_passed : (i k : ℕ) → length ss ≤ i → P i k Nowhere) where
+module _ (ss : List Slot) (b lengths : List ℕ) (P : (i k : ℕ) → Option Place → Type 0)
+    (here : (i k m : ℕ) → i < length ss → k < length lengths → cover_at (subtable lengths b k) ss i ≡ Some m → P i k (Some (place i k (total (take k lengths)) m)))
+    (passed : (i k : ℕ) (p : Option Place) → i < length ss → k < length lengths → cover_at (subtable lengths b k) ss i ≡ None → P i (k + 1) p → P i k p)
+    (slot_passed : (i k : ℕ) (p : Option Place) → i < length ss → k ≡ length lengths → P (i + 1) 0 p → P i k p)
+    (line_passed : (i k : ℕ) → length ss ≤ i → P i k None) where
   abbrev Here : (i k start : ℕ) → Type 0
   Here i k start = k ≤ length lengths → start ≡ total (take k lengths) → P i k (next_place ss b lengths i k start)
 
@@ -138,9 +147,9 @@ module _ (ss : List Slot) (b lengths : List ℕ) (P : (i k : ℕ) → Place → 
       farther : ℕ
       farther = start + get_or lengths k 0
 
-      by_cover : i < length ss → k < length lengths → (c : Covered) → cover_at (subtable lengths b k) ss i ≡ c → P i k (place_by i k start (next_place ss b lengths i (k + 1) farther) c)
-      by_cover h e (Index m) is = subst (λ (s : ℕ). P i k (At i k s m)) (sym starts) (here i k m h e is)
-      by_cover h e Not is =
+      by_cover : i < length ss → k < length lengths → (c : Option ℕ) → cover_at (subtable lengths b k) ss i ≡ c → P i k (place_by i k start (next_place ss b lengths i (k + 1) farther) c)
+      by_cover h e (Some m) is = subst (λ (s : ℕ). P i k (Some (place i k s m))) (sym starts) (here i k m h e is)
+      by_cover h e None is =
           passed i k (next_place ss b lengths i (k + 1) farther) h e is
           (rest i (k + 1) farther (omega (arith, steps_here ss b lengths i k e)) (omega arith) (omega (arith, starts, total_next lengths k e)))
 
@@ -165,14 +174,15 @@ module _ (ss : List Slot) (b lengths : List ℕ) (P : (i k : ℕ) → Place → 
   by_steps i k start = in_steps (steps_from ss b lengths i k) i k start (omega arith)
 
 -- ---- so of where it is, and that its glyph is covered
-abbrev pub Spot : (ss : List Slot) (b lengths : List ℕ) (i : ℕ) → Place → Type 0
-Spot ss b lengths i Nowhere = Unit {0}
-Spot ss b lengths i (At i' k' start' m) =
-    (i ≤ i') × (i' < length ss) × (k' < length lengths) × (start' ≡ total (take k' lengths)) × (cover_at (subtable lengths b k') ss i' ≡ Index m)
+abbrev pub Spot : (ss : List Slot) (b lengths : List ℕ) (i : ℕ) → Option Place → Type 0
+Spot ss b lengths i None = Unit {0}
+Spot ss b lengths i (Some p) =
+    (i ≤ p.index) × (p.index < length ss) × (p.subtable < length lengths) × (p.start ≡ total (take p.subtable lengths))
+    × (cover_at (subtable lengths b p.subtable) ss p.index ≡ Some p.covered)
 
-sooner : (ss : List Slot) (b lengths : List ℕ) (i j : ℕ) (p : Place) → i ≤ j → Spot ss b lengths j p → Spot ss b lengths i p
-sooner ss b lengths i j (At i' k' start' m) h s = (omega (arith, h, s.0), s.1, s.2, s.3, s.4)
-sooner ss b lengths i j Nowhere h s = tt
+sooner : (ss : List Slot) (b lengths : List ℕ) (i j : ℕ) (p : Option Place) → i ≤ j → Spot ss b lengths j p → Spot ss b lengths i p
+sooner ss b lengths i j (Some p) h s = (omega (arith, h, s.0), s.1, s.2, s.3, s.4)
+sooner ss b lengths i j None h s = tt
 
 pub spot : (ss : List Slot) (b lengths : List ℕ) (i k start : ℕ) → k ≤ length lengths → start ≡ total (take k lengths) → Spot ss b lengths i (next_place ss b lengths i k start)
 spot ss b lengths =
@@ -198,22 +208,22 @@ can_read MarkMark t e = marks_readable t e
 pub all_readable : (kind : Kind) (b lengths : List ℕ) → every (good_for kind) (subtables lengths b) ≡ true → AllReadable b lengths
 all_readable kind b lengths e k h = can_read kind (subtable lengths b k) (one_good (good_for kind) lengths b k h e)
 
-module _ (t : List ℕ) (ss : List Slot) (i : ℕ) (e : cover_at t ss i ≡ Not) where
+module _ (t : List ℕ) (ss : List Slot) (i : ℕ) (e : cover_at t ss i ≡ None) where
   single_declines : single_said t ss i ≡ declined []
   unfolding place_for
-  single_declines = ap (λ (c : Covered). adjust_said i (value_place t c)) e
+  single_declines = ap (λ (c : Option ℕ). adjust_said i (value_place t c)) e
 
   pair_declines : (d : Direction) (n : Neighbour) → pair·planSaid d t i (pair·planOf t ss i n) ≡ declined []
   unfolding pair·planOf
-  pair_declines d n = ap (λ (c : Covered). pair·planSaid d t i (pair·afterCovered t ss i n c)) e
+  pair_declines d n = ap (λ (c : Option ℕ). pair·planSaid d t i (pair·afterCovered t ss i n c)) e
 
   cursive_declines : (n : Neighbour) → cursive·planSaid i (cursive·planOf t ss i n) ≡ declined []
   unfolding cursive·planOf
-  cursive_declines n = ap (λ (c : Covered). cursive·planSaid i (cursive·afterCovered t ss i n c)) e
+  cursive_declines n = ap (λ (c : Option ℕ). cursive·planSaid i (cursive·afterCovered t ss i n c)) e
 
   mark_declines : (way : Way) (a : Axis) → mark·planSaid i (mark·planOf way a t ss i) ≡ declined []
   unfolding mark·planOf mark_index
-  mark_declines way a = ap (λ (c : Covered). mark·planSaid i (mark·afterCovered way a t ss i c)) e
+  mark_declines way a = ap (λ (c : Option ℕ). mark·planSaid i (mark·afterCovered way a t ss i c)) e
 
   pub declines : (kind : Kind) (d : Direction) (s u flag : ℕ) (n : Neighbour) → (call_for kind t d s u flag i n).says ss ≡ declined []
   declines Single d s u flag n = single_declines

@@ -1,6 +1,6 @@
 -- A value record leaves what a slot is, and so do the calls that apply one or two: single and pair adjustment. Assumes nothing.
+use Rattle.std.specs.Prelude.{None, Option, Some}
 use mathlib.Core.List.{List}
-use mathlib.Core.Option.{Option, some, none}
 use mathlib.Core.Path.{◌≡◌, refl, ◌∙◌}
 use Prim.Native.Nat.{ℕ, zero, suc}
 use lib.IntN.{ℤ}
@@ -49,8 +49,8 @@ module _ (s u : ℕ) (d : Direction) where
   module _ (t : List ℕ) (i : ℕ) where
     -- a record at a place, if there is one
     adjusted_kept : (p : Option ℕ) (ss : List Slot) → identities (adjusted s u d t i p ss) ≡ identities ss
-    adjusted_kept (some at) ss = update_kept i _ (valued_kept (record_at t at (value_format t)) (value_format t)) ss
-    adjusted_kept none ss = refl
+    adjusted_kept (Some at) ss = update_kept i _ (valued_kept (record_at t at (value_format t)) (value_format t)) ss
+    adjusted_kept None ss = refl
 
     -- two records, if a pair has them
     planned_kept : (p : Plan) (ss : List Slot) → identities (planned s u d t i p ss) ≡ identities ss

@@ -7,7 +7,6 @@ pub mod NeighbourLaws
 pub mod SubtableLaws
 pub mod CoveredLaws
 pub mod CallLaws
-pub mod AnswerLaws
 pub mod FairLaws
 pub mod TurnLaws
 pub mod BeginningLaws

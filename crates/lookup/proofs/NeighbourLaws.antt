@@ -1,9 +1,9 @@
 -- Laws of the neighbours that the seen bits give: one turn of the search upward, what stays found at a later slot, where it is, and that two lines whose
 -- slots are the same give the same. Assumes nothing.
+use Rattle.std.specs.Prelude.{None, Option, Some}
 use Rattle.std.specs.Prelude.{if◌then◌else◌}
 use mathlib.Core.Bool.{Bool, true, false}
 use mathlib.Core.List.{List}
-use mathlib.Core.Option.{Option, some, none}
 use mathlib.Core.Path.{◌≡◌, refl, ap, ap₂, fun_ext, ◌∙◌}
 use Prim.Native.Nat.{ℕ, zero, suc, ◌+◌, ◌-◌, ◌≤◌, ◌<◌}
 use native.Mathlib.Nat.{zero-sub}
@@ -19,7 +19,6 @@ use Rattle.answers.specs.code.Neighbours.{Before}
 use Rattle.answers.specs.declared.Neighbour.TheVariants.{Named, Missing}
 use Rattle.pair.specs.code.Meant.{After}
 use Rattle.targets.proofs.SearchLaws.{known_before}
-use Rattle.targets.specs.declared.search.Found.TheVariants.{Slot as Slot'}
 use Rattle.lookup.specs.Neighbours.{neighbour_for, or_missing, previous, second, seen, seen_from}
 use Rattle.lookup.specs.declared.kinds.Kind.{Kind}
 use Rattle.lookup.specs.declared.kinds.Kind.TheVariants.{Single, Pair, Cursive, MarkBase, MarkLigature, MarkMark}
@@ -29,12 +28,12 @@ use Rattle.lookup.proofs.Kept.{choice}
 -- ---- the lowest number that passes
 -- what was found is from a up and below b
 abbrev Within : ℕ → ℕ → Option ℕ → Type 0
-Within a b (some j) = (a ≤ j) × (j < b)
-Within a b none = Unit {0}
+Within a b (Some j) = (a ≤ j) × (j < b)
+Within a b None = Unit {0}
 
 wider : (a b : ℕ) (o : Option ℕ) → Within (suc a) b o → Within a b o
-wider a b (some j) h = (omega arith, omega arith)
-wider a b none h = tt
+wider a b (Some j) h = (omega arith, omega arith)
+wider a b None h = tt
 
 module _ (p : ℕ → Bool) where
   -- it is one of the n numbers from i up
@@ -43,18 +42,18 @@ module _ (p : ℕ → Bool) where
   lowest_within zero i = tt
   lowest_within (suc n) i =
       let end : suc i + n ≡ i + suc n = omega arith in
-      choice (Within i (i + suc n)) (some i) (lowest p (suc i) n) (omega arith, omega arith)
+      choice (Within i (i + suc n)) (Some i) (lowest p (suc i) n) (omega arith, omega arith)
       (wider i (i + suc n) (lowest p (suc i) n) (rw end at (lowest_within n (suc i)))) (p i)
 
   -- the same is found d numbers on, unless it was among these
-  lowest_moved : (d i n : ℕ) → ((j : ℕ) → lowest p i n ≡ some j → i + d ≤ j) → lowest p i n ≡ lowest p (i + d) (n - d)
+  lowest_moved : (d i n : ℕ) → ((j : ℕ) → lowest p i n ≡ Some j → i + d ≤ j) → lowest p i n ≡ lowest p (i + d) (n - d)
   unfolding lowest
   lowest_moved zero i n h = simp unary_clauses
   lowest_moved (suc d) i zero h = simp zero-sub
   lowest_moved (suc d) i (suc n) h =
       let start : suc i + d ≡ i + suc d = omega arith in
       let left : n - d ≡ suc n - suc d = omega arith in
-      choice (λ (o : Option ℕ). ((j : ℕ) → o ≡ some j → i + suc d ≤ j) → o ≡ lowest p (i + suc d) (suc n - suc d)) (some i) (lowest p (suc i) n)
+      choice (λ (o : Option ℕ). ((j : ℕ) → o ≡ Some j → i + suc d ≤ j) → o ≡ lowest p (i + suc d) (suc n - suc d)) (Some i) (lowest p (suc i) n)
       (λ k. absurd (omega (arith, k i refl))) (λ k. rw (start, left) at (lowest_moved d (suc i) n (λ j e. omega (arith, k j e)))) (p i) h
 
 -- ---- from slot i up
@@ -79,8 +78,8 @@ pub second_after : (ss : List Slot) (i : ℕ) → After (length ss) i (second ss
 second_after ss i = go (lowest (seen ss) (i + 1) (length ss - (i + 1))) (lowest_within (seen ss) (length ss - (i + 1)) (i + 1))
   where
     go : (o : Option ℕ) → Within (i + 1) (i + 1 + (length ss - (i + 1))) o → After (length ss) i (or_missing (length ss) o)
-    go (some j) h = (omega arith, omega arith)
-    go none h = tt
+    go (Some j) h = (omega arith, omega arith)
+    go None h = tt
 
 -- it is that of a later slot n too, unless n has reached it
 module _ (ss : List Slot) (i n : ℕ) (later : i ≤ n) where
@@ -103,8 +102,8 @@ pub previous_before : (ss : List Slot) (i : ℕ) → Before i (previous ss i)
 previous_before ss i = go (nearest (seen ss) i) refl
   where
     go : (o : Option ℕ) → o ≡ nearest (seen ss) i → Before i (or_missing 0 o)
-    go (some j) e = known_before (seen ss) (Slot' j) i i e (omega arith)
-    go none e = tt
+    go (Some j) e = known_before (seen ss) (Some j) i i e (omega arith)
+    go None e = tt
 
 -- slot 0 has none
 pub previous_first : (ss : List Slot) → Missing 0 ≡ previous ss 0

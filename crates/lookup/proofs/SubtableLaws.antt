@@ -6,10 +6,9 @@ use mathlib.Core.List.{List, [], ◌∷◌}
 use Prim.Native.Nat.{ℕ, zero, suc, ◌+◌, ◌-◌, ◌≤◌, ◌<◌}
 use native.Mathlib.Numerals.{add-one}
 use native.Mathlib.Omega.{arith}
-use borrow.Author.Tests.{eq-eqb, eqb-false, eqb-true, ne_eqb}
-use lib.Dec.{eqb}
-use lib.ListN.{drop, drop_of_length-le, get_or, length, take}
-use lib.Seq.{drop-cons, drop-drop, take_all}
+use lib.ListN.{drop, drop_of_length-le, get_or, length, length-drop, take}
+use lib.Seq.{drop-cons, drop-drop}
+use Rattle.std.proofs.lemmas.Bool.Decides.{nat_tests}
 use Rattle.ints.proofs.TestLaws.{and_left, and_right}
 use Rattle.lookup.specs.Subtables.{every, subtable, subtables, total}
 
@@ -62,61 +61,45 @@ one_good p [] b k h e = absurd (omega arith)
 one_good p (n ∷ ns) b zero h e = and_left (p (take n b)) (every p (subtables ns (drop n b))) e
 one_good p (n ∷ ns) b (suc k) h e = one_good p ns (drop n b) k (omega arith) (and_right (p (take n b)) (every p (subtables ns (drop n b))) e)
 
--- ---- do they add up to n? k of them are passed, and `left` bytes are left
-abbrev pub Left : (ns : List ℕ) (n k left : ℕ) → Type 0
-Left ns n k left = (total (take k ns) + left ≡ n) × (k ≤ length ns)
+-- ---- the lengths from number k on
+pub total_from : (ns : List ℕ) (k : ℕ) → k < length ns → total (drop k ns) ≡ get_or ns k 0 + total (drop (k + 1) ns)
+unfolding total
+total_from ns k h = rw (drop-cons ns k 0 h, add-one)
 
-module _ (ns : List ℕ) (n k left : ℕ) (kept : Left ns n k left) where
-  pub left_next : k < length ns → get_or ns k 0 ≤ left → Left ns n (k + 1) (left - get_or ns k 0)
-  left_next h fits = (omega (arith, total_next ns k h), omega arith)
+pub total_past : (ns : List ℕ) (k : ℕ) → length ns ≤ k → total (drop k ns) ≡ 0
+unfolding total
+total_past ns k h = rw (drop_of_length-le ns {i = k} h)
 
-  pub left_short : k < length ns → left < get_or ns k 0 → false ≡ eqb (total ns) n
-  left_short h short = sym (ne_eqb (total ns) n (λ e. omega (arith, ends_inside ns k h)))
+-- for the sum of the lengths
+pub ruleset lengths_left = (total_from, total_past, nat_tests)
 
-  pub left_end : length ns ≤ k → eqb left 0 ≡ eqb (total ns) n
-  left_end h = go (eqb left 0) refl
-    where
-      all : total ns + left ≡ n
-      all = rw (take_all k ns h) at kept.0
+-- ---- do all pass the test? the first k do, and the others are in the bytes that are left
+pub record Passed (p : List ℕ → Bool) (ns b : List ℕ) (k : ℕ) (left : List ℕ) : Type 0 where
+  pub adds_up : total (drop k ns) ≡ length left
+  pub rest : every p (subtables ns b) ≡ every p (subtables (drop k ns) left)
 
-      go : (c : Bool) → eqb left 0 ≡ c → c ≡ eqb (total ns) n
-      go true e = sym (eq-eqb (total ns) n (omega (arith, all, eqb-true left 0 e)))
-      go false e = sym (ne_eqb (total ns) n (λ q. eqb-false left 0 e (omega (arith, all))))
-
--- ---- do all pass the test? the first k do, and end at byte `start`
-pub record Passed (p : List ℕ → Bool) (ns b : List ℕ) (k start : ℕ) : Type 0 where
-  pub start_is : start ≡ total (take k ns)
-  pub within : k ≤ length ns
-  pub rest : every p (subtables ns b) ≡ every p (subtables (drop k ns) (drop start b))
-
-pub passed_none : (p : List ℕ → Bool) (ns b : List ℕ) → Passed p ns b 0 0
-passed_none p ns b = record { start_is = total_none ns; within = omega arith; rest = refl }
-
-module _ {p : List ℕ → Bool} {ns b : List ℕ} {k start : ℕ} (kept : Passed p ns b k start) where
+module _ {p : List ℕ → Bool} {ns b : List ℕ} {k : ℕ} {left : List ℕ} (kept : Passed p ns b k left) where
   pub passed_end : length ns ≤ k → true ≡ every p (subtables ns b)
   unfolding subtables every
   passed_end h = sym (kept.rest ∙ rw (drop_of_length-le ns {i = k} h))
 
   module _ (h : k < length ns) where
-    abbrev end : ℕ
-    end = start + get_or ns k 0
-
-    -- the next ends inside the buffer
-    pub passed_inside : total ns ≡ length b → end ≤ length b
-    passed_inside = cut_inside ns b k start kept.start_is h
+    -- the next is inside them
+    pub passed_inside : get_or ns k 0 ≤ length left
+    passed_inside = omega (arith, kept.adds_up, total_from ns k h)
 
     -- it decides, with the rest
-    next : every p (subtables ns b) ≡ p (take (end - start) (drop start b)) && every p (subtables (drop (k + 1) ns) (drop end b))
+    next : every p (subtables ns b) ≡ p (take (get_or ns k 0) left) && every p (subtables (drop (k + 1) ns) (drop (get_or ns k 0) left))
     unfolding subtables every
-    next =
-        let only : end - start ≡ get_or ns k 0 = omega arith in
-        kept.rest ∙ rw (drop-cons ns k 0 h, drop-drop, only, add-one)
+    next = kept.rest ∙ rw (drop-cons ns k 0 h, add-one)
 
     -- by code's test of it
-    module _ {c : Bool} (is : c ≡ p (take (end - start) (drop start b))) where
+    module _ {c : Bool} (is : c ≡ p (take (get_or ns k 0) left)) where
       pub passed_bad : c ≡ false → false ≡ every p (subtables ns b)
       passed_bad e = sym (next ∙ rw (← is, e))
 
-      pub passed_next : c ≡ true → Passed p ns b (k + 1) end
-      passed_next e =
-          record { start_is = omega (arith, kept.start_is, total_next ns k h); within = omega arith; rest = next ∙ rw (← is, e) }
+      pub passed_next : c ≡ true → Passed p ns b (k + 1) (drop (get_or ns k 0) left)
+      passed_next e = record {
+        adds_up = omega (arith, kept.adds_up, total_from ns k h, length-drop (get_or ns k 0) left);
+        rest = next ∙ rw (← is, e);
+      }

@@ -1,11 +1,11 @@
 -- Laws of one turn of a run: what the call needs, what it leaves, and that the run can go on. Assumes nothing.
+use Rattle.std.specs.Prelude.{None, Option, Some}
 use Rattle.std.specs.Prelude.{if◌then◌else◌}
 use mathlib.Core.Path.{◌≡◌, refl, sym, ap, ap₂, subst, ◌∙◌}
 use mathlib.Core.Bool.{Bool, true, false, not, ◌||◌}
 use mathlib.Core.List.{List}
-use mathlib.Core.Option.{Option, some, none}
 use Prim.Native.Nat.{ℕ, ◌+◌, ◌*◌, ◌/◌, ◌≤◌, ◌<◌}
-use native.Mathlib.Nat.{mul-le-mul_right, suc-ne-zero}
+use native.Mathlib.Nat.{mul-le-mul_right}
 use native.Mathlib.Omega.{arith}
 use borrow.Author.Tests.{eqb-false, eqb-true, ltb-false, ltb-true}
 use lib.Dec.{eqb, ltb}
@@ -21,11 +21,12 @@ use Rattle.slots.specs.theorems.Identity.{identities}
 use Rattle.slots.specs.declared.axis.Direction.{Direction}
 use Rattle.slots.specs.declared.shape.Shape.{Shape}
 use Rattle.slots.proofs.LineLaws.{known_size, length_bytes, length_slots, line_short}
-use Rattle.tables.specs.declared.coverage.Covered.TheVariants.{Index}
 use Rattle.answers.specs.Outcome.{line_after, Made}
 use Rattle.answers.specs.Said.{applied, declined, done, refused, Said}
 use Rattle.answers.specs.code.Effect.{MadeOn}
 use Rattle.answers.specs.declared.Neighbour.{Neighbour}
+use Rattle.answers.specs.declared.UpToTwo.{UpToTwo}
+use Rattle.records.specs.declared.HazardRecord.{HazardRecord}
 use Rattle.answers.proofs.OutcomeLaws.{made_by}
 use Rattle.targets.specs.Place.{searched}
 use Rattle.targets.specs.Search.{stops_at}
@@ -34,17 +35,14 @@ use Rattle.targets.specs.declared.mark_pos.Target.{Target}
 use Rattle.lookup.specs.Kinds.{good_for}
 use Rattle.lookup.specs.Neighbours.{neighbour_for}
 use Rattle.lookup.specs.Subtables.{most_subtables, subtable, total}
-use Rattle.lookup.specs.code.Calls.{after_search, by_target, call_for, call_now, finds, Ready, remembered, Right, RightAt, slots_now, target_of}
+use Rattle.lookup.specs.code.Calls.{after_search, by_target, call_for, call_now, finds, Ready, remembered, remembering, Right, RightAt, slots_now, target_of, unsearched}
 use Rattle.lookup.specs.code.Covered.{AllReadable, cover_at}
-use Rattle.lookup.specs.code.Meant.{place_number}
-use Rattle.lookup.specs.code.Run.{called, Fine, goes, line_at, line_called, line_of, moved_to, Next, next_state, Placed, place_now, said_now, subtable_now, turn_at, turned_by, turn_of}
+use Rattle.lookup.specs.code.Run.{called, Fine, line_at, line_called, line_of, moved_to, Next, next_state, Placed, place_now, said_now, subtable_now, turn_at, Turned, turned_by, turn_of}
 use Rattle.lookup.specs.declared.covered.Place.{Place}
-use Rattle.lookup.specs.declared.covered.Place.TheVariants.{At, Nowhere}
 use Rattle.lookup.specs.declared.kinds.Kind.{Kind}
 use Rattle.lookup.specs.declared.kinds.Kind.TheVariants.{Single, Pair, Cursive, MarkBase, MarkLigature, MarkMark}
-use Rattle.lookup.specs.declared.state.Memory.{Memory}
+use Rattle.lookup.specs.declared.state.Searched.{Searched}
 use Rattle.lookup.specs.declared.state.State.{State}
-use Rattle.lookup.specs.declared.turns.Turned.{Turned}
 use Rattle.lookup.proofs.CoveredLaws.{all_readable, spot, Spot}
 use Rattle.lookup.proofs.FairLaws.{fair, Fair}
 use Rattle.lookup.proofs.IdentityLaws.{nearest_same, same_bad, same_length, same_stops}
@@ -73,14 +71,14 @@ call_kept MarkMark t d s u flag i n ss = mark_kept _ t d s u i ss
 
 -- so a search finds what it found
 finds_same : (o : Option Target) (t : List ℕ) (ss ss' : List Slot) → identities ss ≡ identities ss' → (n : ℕ) → finds o t ss n ≡ finds o t ss' n
-finds_same none t ss ss' e n = refl
-finds_same (some target) t ss ss' e n =
-    ap (λ (f : Option ℕ). if eqb (base_coverage_offset t) 0 then none else f)
+finds_same None t ss ss' e n = refl
+finds_same (Some target) t ss ss' e n =
+    ap (λ (f : Option ℕ). if eqb (base_coverage_offset t) 0 then None else f)
     (nearest_same (stops_at target t ss) (stops_at target t ss') (same_stops ss ss' e target t) n)
 
-right_same : (kind : Kind) (t : List ℕ) (ss ss' : List Slot) → identities ss ≡ identities ss' → (i j until found : ℕ) → i ≤ j → Right kind t ss i until found → Right kind t ss' j until found
-right_same kind t ss ss' e i j until found h r =
-    record { not_past = omega (arith, r.not_past); found_is = r.found_is ∙ ap place_number (finds_same (target_of kind) t ss ss' e until) }
+right_same : (kind : Kind) (t : List ℕ) (ss ss' : List Slot) → identities ss ≡ identities ss' → (i j : ℕ) (m : Searched) → i ≤ j → Right kind t ss i m → Right kind t ss' j m
+right_same kind t ss ss' e i j m h r =
+    record { not_past = omega (arith, r.not_past); found_is = r.found_is ∙ finds_same (target_of kind) t ss ss' e m.until }
 
 -- ---- one call, where all that it needs holds
 module _ {l b lengths : List ℕ} {st : State} (placed : Placed l b lengths st) where
@@ -89,6 +87,15 @@ module _ {l b lengths : List ℕ} {st : State} (placed : Placed l b lengths st) 
 
   abbrev kind : Kind
   kind = st.lookup.kind
+
+  abbrev direction : Direction
+  direction = st.lookup.frame.direction
+
+  abbrev s : ℕ
+  s = st.lookup.frame.scale.s
+
+  abbrev u : ℕ
+  u = st.lookup.frame.scale.u
 
   abbrev ss : List Slot
   ss = slots_now l st
@@ -132,7 +139,6 @@ module _ {l b lengths : List ℕ} {st : State} (placed : Placed l b lengths st) 
       record {
         inside = record { fits = fine.whole.fits; below = placed.index_in };
         few = few_slots;
-        scale = fine.scale;
         good = ap (good_for kind) part_is ∙ one_good (good_for kind) lengths b st.subtable placed.subtable_in fine.good.all_good;
         near_is = near_now;
         in_memory = omega (arith, placed.subtable_in, fine.good.few);
@@ -143,12 +149,12 @@ module _ {l b lengths : List ℕ} {st : State} (placed : Placed l b lengths st) 
   pub is_fair : Fair st.index (length ss) (said_now l b lengths st)
   is_fair =
       let in_line : st.index < length ss = omega (arith, length_slots st.lookup.shape l, placed.index_in) in
-      subst (λ (n : Neighbour). Fair st.index (length ss) ((call_for kind T st.lookup.direction st.lookup.s st.lookup.u st.lookup.flag st.index n).says ss))
-      (sym near_now) (fair T st.lookup.direction st.lookup.s st.lookup.u st.lookup.flag st.index ss in_line kind)
+      subst (λ (n : Neighbour). Fair st.index (length ss) ((call_for kind T direction s u st.lookup.flag st.index n).says ss))
+      (sym near_now) (fair T direction s u st.lookup.flag st.index ss in_line kind)
 
   -- it leaves the slots what they were
   now_kept : identities ((call_now T st).leaves ss) ≡ identities ss
-  now_kept = call_kept kind T st.lookup.direction st.lookup.s st.lookup.u st.lookup.flag st.index st.near ss
+  now_kept = call_kept kind T direction s u st.lookup.flag st.index st.near ss
 
   -- so it leaves as many bytes as there were
   pub line_length : length (line_called l b lengths st) ≡ length l
@@ -173,50 +179,36 @@ module _ {l b lengths : List ℕ} {st : State} (placed : Placed l b lengths st) 
       by_said (refused n) = refl
 
   -- ---- how far the searches have come
-  abbrev AllRight : Memory → Type 0
+  abbrev AllRight : List Searched → Type 0
   AllRight m = (k : ℕ) → k < length lengths → RightAt m k kind (subtable lengths b k) ss st.index
 
-  module _ (target : Target) (e : target_of kind ≡ some target) where
-    abbrev untils : List ℕ
-    untils = st.memory.until
+  searched_right : (target : Target) → target_of kind ≡ Some target → AllRight (after_search target T ss st)
+  searched_right target e = λ k h. here k h (eqb k st.subtable) refl
+    where
+      now : Searched
+      now = record { until = st.index; found = searched target T ss st.index }
 
-    abbrev founds : List ℕ
-    founds = st.memory.found
+      own_right : Right kind T ss st.index now
+      own_right = record { not_past = omega arith; found_is = ap (λ (o : Option Target). finds o T ss st.index) (sym e) }
 
-    abbrev found_now : ℕ
-    found_now = place_number (searched target T ss st.index)
-
-    -- of its own subtable
-    own_right : Right kind T ss st.index st.index found_now
-    own_right = record { not_past = omega arith; found_is = ap (λ (o : Option Target). place_number (finds o T ss st.index)) (sym e) }
-
-    searched_right : AllRight (after_search target T ss st)
-    searched_right = λ k h. here k h (eqb k st.subtable) refl
-      where
-        in_memory : st.subtable < most_subtables
-        in_memory = omega (arith, placed.subtable_in, fine.good.few)
-
-        here : (k : ℕ) → k < length lengths → (z : Bool) → eqb k st.subtable ≡ z
-            → Right kind (subtable lengths b k) ss st.index (get_or (set untils st.subtable st.index) k 0) (get_or (set founds st.subtable found_now) k 0)
-        here k h true same =
-            let is : k ≡ st.subtable = eqb-true k st.subtable same in
-            rw (is, get_or-set_same untils st.subtable st.index 0 (omega (arith, in_memory, fine.good.untils)), get_or-set_same founds st.subtable found_now 0 (omega (arith, in_memory, fine.good.founds))) own_right
-        here k h false other =
-            let not : k ≡ st.subtable → ⊥ = eqb-false k st.subtable other in
-            rw (get_or-set_other untils st.subtable k st.index 0 not, get_or-set_other founds st.subtable k found_now 0 not) (fine.right k h)
+      here : (k : ℕ) → k < length lengths → (z : Bool) → eqb k st.subtable ≡ z → Right kind (subtable lengths b k) ss st.index (get_or (set st.memory st.subtable now) k unsearched)
+      here k h true same =
+          let is : k ≡ st.subtable = eqb-true k st.subtable same in
+          rw (is, get_or-set_same st.memory st.subtable now unsearched (omega (arith, placed.subtable_in, fine.good.few, fine.good.remembered))) own_right
+      here k h false other =
+          rw (get_or-set_other st.memory st.subtable k now unsearched (eqb-false k st.subtable other)) (fine.right k h)
 
   target_right : (o : Option Target) → target_of kind ≡ o → AllRight (by_target o T ss st)
-  target_right (some target) e = searched_right target e
-  target_right none e = fine.right
+  target_right (Some target) e = searched_right target e
+  target_right None e = fine.right
 
-  abbrev memory : Memory
+  abbrev memory : List Searched
   memory = remembered T ss st
 
-  -- its lists are as long as they were
-  memory_lengths : (o : Option Target) → (length (by_target o T ss st).until ≡ most_subtables) × (length (by_target o T ss st).found ≡ most_subtables)
-  memory_lengths (some target) =
-      (length-set st.memory.until st.subtable _ ∙ fine.good.untils, length-set st.memory.found st.subtable _ ∙ fine.good.founds)
-  memory_lengths none = (fine.good.untils, fine.good.founds)
+  -- it remembers each subtable's, as it did
+  memory_length : (o : Option Target) → length (by_target o T ss st) ≡ most_subtables
+  memory_length (Some target) = length-set st.memory st.subtable _ ∙ fine.good.remembered
+  memory_length None = fine.good.remembered
 
   -- ---- what it leaves
   module _ (l' : List ℕ) (bytes₀ : AllBytes l) (bytes' : AllBytes l') (as_long : length l' ≡ length l) {r : Said} (done_so : MadeOn (call_now part st) ss r (slots_now l' st)) where
@@ -249,11 +241,10 @@ module _ {l b lengths : List ℕ} {st : State} (placed : Placed l b lengths st) 
     fits' = record { wide = fine.whole.fits.wide; whole = as_long ∙ fine.whole.fits.whole; few = omega (arith, as_long, fine.whole.fits.few) }
 
     -- a state at slot i of the new line is fine
-    fine_at : (i k start : ℕ) (a : Bool) → st.index ≤ i → k ≤ length lengths → start ≡ total (take k lengths) → Fine l' b lengths (goes i k start a st.near st.known memory st.lookup)
+    fine_at : (i k start : ℕ) (a : Bool) → st.index ≤ i → k ≤ length lengths → start ≡ total (take k lengths) → Fine l' b lengths (record st { index = i; subtable = k; start = start; attached = a; memory = memory })
     fine_at i k start a not_before within starts =
         record {
-          goes_on = refl;
-          scale = fine.scale;
+          goes_on = fine.goes_on;
           whole = record {
             line_good = ap (bad_length_of z) as_long ∙ fine.whole.line_good;
             shape_is = fine.whole.shape_is ∙ ap (shape_for z) (sym as_long);
@@ -264,35 +255,37 @@ module _ {l b lengths : List ℕ} {st : State} (placed : Placed l b lengths st) 
           good = record {
             one = fine.good.one;
             few = fine.good.few;
-            untils = (memory_lengths (target_of kind)).0;
-            founds = (memory_lengths (target_of kind)).1;
+            remembered = memory_length (target_of kind);
             adds_up = fine.good.adds_up;
             within = within;
             start_is = starts;
             all_good = fine.good.all_good;
           };
-          right = λ j h. right_same kind (subtable lengths b j) ss ss' kept st.index i _ _ not_before (target_right (target_of kind) refl j h);
+          right = λ j h. right_same kind (subtable lengths b j) ss ss' kept st.index i _ not_before (target_right (target_of kind) refl j h);
         }
 
     abbrev end : ℕ
     end = st.start + len
 
+    abbrev after : State
+    after = remembering T ss st
+
     -- whatever it said
-    said_fine : (s : Said) → Fair st.index (length ss) s → Next l' b lengths (next_state end st memory s)
+    said_fine : (s : Said) → Fair st.index (length ss) s → Next l' b lengths (next_state end after s)
     said_fine (applied n hs a) f = λ on. fine_at n 0 0 (st.attached || a) (omega (arith, f.1.0)) (omega arith) (total_none lengths)
     said_fine (declined hs) f =
         λ on. fine_at st.index (st.subtable + 1) end st.attached (omega arith) (omega (arith, placed.subtable_in)) (omega (arith, fine.good.start_is, total_next lengths st.subtable placed.subtable_in))
-    said_fine (refused n) f = λ on. absurd (suc-ne-zero _ on)
-    said_fine done f = λ on. absurd (suc-ne-zero _ on)
+    said_fine (refused n) f = λ on. absurd (cc)
+    said_fine done f = λ on. absurd (cc)
 
-    -- what code made of the call's answer and of how far the searches have come is the call
-    pub called_so : (s : Said) → s ≡ r → (m : Memory) → m ≡ remembered part ss st → (q : Turned) → q ≡ turned_by end st m s
+    -- what code made of the call's answer is the call
+    pub called_so : (st' : State) → st' ≡ remembering part ss st → (q : Turned) → q ≡ turned_by end st' r
         → (q ≡ called l b lengths st) × (l' ≡ line_called l b lengths st) × Next l' b lengths q.next
     unfolding called
-    called_so s e m is_m q is-q = (is, line_is, rw is (said_fine (said_now l b lengths st) is_fair))
+    called_so st' is-st q is-q = (is, line_is, rw is (said_fine (said_now l b lengths st) is_fair))
       where
         is : q ≡ called l b lengths st
-        is = is-q ∙ ap₂ (turned_by end st) (is_m ∙ ap (λ (t : List ℕ). remembered t ss st) part_is) (e ∙ made.answer)
+        is = is-q ∙ ap₂ (turned_by end) (is-st ∙ ap (λ (t : List ℕ). remembering t ss st) part_is) made.answer
 
 -- ---- one turn
 module _ {l b lengths : List ℕ} {st : State} (fine : Fine l b lengths st) where
@@ -301,7 +294,7 @@ module _ {l b lengths : List ℕ} {st : State} (fine : Fine l b lengths st) wher
       × ((total lengths ≡ length b) × AllReadable b lengths)
   can_pass = ((fine.whole.fits, fine.good.within, fine.good.start_is), (fine.good.adds_up, all_readable st.lookup.kind b lengths fine.good.all_good))
 
-  module _ (p : Place) (e : p ≡ place_now l b lengths st) where
+  module _ (p : Option Place) (e : p ≡ place_now l b lengths st) where
     pub turn_is : turn_of l b lengths st ≡ turn_at l b lengths st p
     unfolding turn_of
     turn_is = ap (turn_at l b lengths st) (sym e)
@@ -313,83 +306,91 @@ module _ {l b lengths : List ℕ} {st : State} (fine : Fine l b lengths st) wher
     pub where_is : Spot (slots_now l st) b lengths st.index p
     where_is = subst (Spot (slots_now l st) b lengths st.index) (sym e) (spot (slots_now l st) b lengths st.index st.subtable st.start fine.good.within fine.good.start_is)
 
+  -- what a turn of code is to be, by its records and the state that it leaves
+  abbrev Turn : (l' : List ℕ) (rs : UpToTwo HazardRecord) (st' : State) → Type 0
+  Turn l' rs st' =
+      (rs ≡ (turn_of l b lengths st).records) × (st' ≡ (turn_of l b lengths st).next) × (l' ≡ line_of l b lengths st) × Next l' b lengths st'
+
   -- there is none: the run is at its end
-  pub ends_so : Nowhere ≡ place_now l b lengths st → (q : Turned) → q ≡ turn_at l b lengths st Nowhere → (q ≡ turn_of l b lengths st) × (l ≡ line_of l b lengths st) × Next l b lengths q.next
-  ends_so e q is = (is ∙ sym (turn_is Nowhere e), sym (line_turned Nowhere e), rw is (λ on. absurd (suc-ne-zero _ on)))
+  pub ends_so : None ≡ place_now l b lengths st → Turn l (turn_at l b lengths st None).records (turn_at l b lengths st None).next
+  ends_so e =
+      (ap (λ (q : Turned). q.records) (sym (turn_is None e)), ap (λ (q : Turned). q.next) (sym (turn_is None e)), sym (line_turned None e), λ on. absurd (cc))
 
   -- there is one: all that the call needs holds there
-  module _ (i k start m : ℕ) (e : At i k start m ≡ place_now l b lengths st) where
+  module _ (p : Place) (e : Some p ≡ place_now l b lengths st) where
     abbrev here : State
-    here = moved_to l st i k start
+    here = moved_to l st p.index p.subtable p.start
 
-    at : Spot (slots_now l st) b lengths st.index (At i k start m)
-    at = where_is (At i k start m) e
+    at : Spot (slots_now l st) b lengths st.index (Some p)
+    at = where_is (Some p) e
 
-    pub below : i < st.lookup.shape.count
+    pub below : p.index < st.lookup.shape.count
     below = omega (arith, at.1, length_slots st.lookup.shape l)
 
-    pub not_before : st.known ≤ i
+    pub not_before : st.known ≤ p.index
     not_before = omega (arith, at.0, fine.near.not_past)
 
-    pub few_here : k < most_subtables
+    pub few_here : p.subtable < most_subtables
     few_here = omega (arith, at.2, fine.good.few)
 
     pub is_placed : Placed l b lengths here
     is_placed =
         record {
           fine = record {
-            goes_on = refl;
-            scale = fine.scale;
+            goes_on = fine.goes_on;
             whole = record { line_good = fine.whole.line_good; shape_is = fine.whole.shape_is; fits = fine.whole.fits; slots_good = fine.whole.slots_good };
             near = record { not_past = omega arith; near_is = refl };
             good = record {
               one = fine.good.one;
               few = fine.good.few;
-              untils = fine.good.untils;
-              founds = fine.good.founds;
+              remembered = fine.good.remembered;
               adds_up = fine.good.adds_up;
               within = omega (arith, at.2);
               start_is = at.3;
               all_good = fine.good.all_good;
             };
-            right = λ j h. right_same st.lookup.kind (subtable lengths b j) (slots_now l st) (slots_now l st) refl st.index i _ _ at.0 (fine.right j h);
+            right = λ j h. right_same st.lookup.kind (subtable lengths b j) (slots_now l st) (slots_now l st) refl st.index p.index _ at.0 (fine.right j h);
           };
           index_in = below;
           subtable_in = at.2;
           known_is = refl;
         }
 
-    pub is_covered_lem : cover_at (part is_placed) (slots_now l st) i ≡ Index m
-    is_covered_lem = ap (λ (t : List ℕ). cover_at t (slots_now l st) i) (part_is is_placed) ∙ at.4
+    pub in_list : p.subtable < length lengths
+    in_list = at.2
 
-    -- and the turn is that call
-    pub turns_so : (l' : List ℕ) (q : Turned) → (q ≡ called l b lengths here) × (l' ≡ line_called l b lengths here) × Next l' b lengths q.next
-        → (q ≡ turn_of l b lengths st) × (l' ≡ line_of l b lengths st) × Next l' b lengths q.next
-    turns_so l' q x = (x.0 ∙ sym (turn_is (At i k start m) e), x.1 ∙ sym (line_turned (At i k start m) e), x.2)
+    pub ends_inside : p.start + get_or lengths p.subtable 0 ≤ length b
+    ends_inside = part_inside is_placed
+
+    pub is_covered_lem : cover_at (part is_placed) (slots_now l st) p.index ≡ Some p.covered
+    is_covered_lem = ap (λ (t : List ℕ). cover_at t (slots_now l st) p.index) (part_is is_placed) ∙ at.4
 
     abbrev there : List ℕ
-    there = cut lengths b k start
+    there = cut lengths b p.subtable p.start
 
     -- code has a state that is this one
     module _ (q : State) (is : q ≡ here) where
-      pub call_ready : Ready l there q × (cover_at there (slots_now l q) q.index ≡ Index m)
-      call_ready = subst (λ (x : State). Ready l there x × (cover_at there (slots_now l x) x.index ≡ Index m)) (sym is) (ready is_placed, is_covered_lem)
+      pub call_ready : Ready l there q × (cover_at there (slots_now l q) q.index ≡ Some p.covered)
+      call_ready = subst (λ (x : State). Ready l there x × (cover_at there (slots_now l x) x.index ≡ Some p.covered)) (sym is) (ready is_placed, is_covered_lem)
 
-      pub few_tables : q.subtable < most_subtables
-      few_tables = subst (λ (x : State). x.subtable < most_subtables) (sym is) few_here
-
+      -- and the turn is that call
       pub turned_so : (l' : List ℕ) → AllBytes l → AllBytes l' → length l' ≡ length l → (r : Said) → MadeOn (call_now there q) (slots_now l q) r (slots_now l' q)
-          → (mem : Memory) → mem ≡ remembered there (slots_now l q) q → (x : Turned) → x ≡ turned_by (start + get_or lengths k 0) q mem r
-          → (x ≡ turn_of l b lengths st) × (l' ≡ line_of l b lengths st) × Next l' b lengths x.next
-      turned_so l' bytes₀ bytes' as_long r made mem is_mem x is_x =
-          turns_so l' x
-          (called_so is_placed l' bytes₀ bytes' as_long (subst (λ (y : State). MadeOn (call_now there y) (slots_now l y) r (slots_now l' y)) is made) r refl mem
-          (subst (λ (y : State). mem ≡ remembered there (slots_now l y) y) is is_mem) x (is_x ∙ ap (λ (y : State). turned_by (start + get_or lengths k 0) y mem r) is))
+          → (after : State) → after ≡ remembering there (slots_now l q) q
+          → (rs : UpToTwo HazardRecord) (st' : State) → (rs ≡ (turned_by (p.start + get_or lengths p.subtable 0) after r).records) × (st' ≡ (turned_by (p.start + get_or lengths p.subtable 0) after r).next)
+          → Turn l' rs st'
+      turned_so l' bytes₀ bytes' as_long r made after is_after rs st' is_x =
+          let x = called_so is_placed l' bytes₀ bytes' as_long (subst (λ (y : State). MadeOn (call_now there y) (slots_now l y) r (slots_now l' y)) is made) after
+          (subst (λ (y : State). after ≡ remembering there (slots_now l y) y) is is_after) (record { records = rs; next = st' }) (rw (is_x.0, is_x.1)) in
+          let so = x.0 ∙ sym (turn_is (Some p) e) in
+          (ap (λ (q : Turned). q.records) so, ap (λ (q : Turned). q.next) so, x.1 ∙ sym (line_turned (Some p) e), x.2)
 
   -- it leaves the line as long as it was
   pub turn_length : length (line_of l b lengths st) ≡ length l
   turn_length = by_place (place_now l b lengths st) refl
     where
-      by_place : (p : Place) → p ≡ place_now l b lengths st → length (line_of l b lengths st) ≡ length l
-      by_place Nowhere e = ap length (line_turned Nowhere e)
-      by_place (At i k start m) e = ap length (line_turned (At i k start m) e) ∙ line_length (is_placed i k start m e)
+      by_place : (p : Option Place) → p ≡ place_now l b lengths st → length (line_of l b lengths st) ≡ length l
+      by_place None e = ap length (line_turned None e)
+      by_place (Some p) e = ap length (line_turned (Some p) e) ∙ line_length (is_placed p e)
+
+-- what code's turn asks of the place
+pub ruleset of_turn = (can_pass, below, not_before, few_here, in_list, ends_inside)

@@ -1,6 +1,6 @@
 -- The lookup types (OpenType, GPOS) that the library has. Assumes nothing.
+use Rattle.std.specs.Prelude.{None, Option, Some}
 use Rattle.std.specs.Prelude.{Bool, List, ℕ, eqb, if◌then◌else◌}
-use Rattle.std.proofs.Math.Option.{Option, some, none}
 use Rattle.single.specs.SinglePos.{single_good}
 use Rattle.pair.specs.PairPos.{pair_good}
 use Rattle.cursive.specs.CursivePos.{cursive_good}
@@ -11,13 +11,13 @@ use Rattle.lookup.specs.declared.kinds.Kind.TheVariants.{Single, Pair, Cursive, 
 -- the kind of a lookup type: of another number there is none
 abbrev pub kind_of : ℕ → Option Kind
 kind_of n =
-    if eqb n 1 then some Single
-    else (if eqb n 2 then some Pair
-    else (if eqb n 3 then some Cursive
-    else (if eqb n 4 then some MarkBase
-    else (if eqb n 5 then some MarkLigature
-    else (if eqb n 6 then some MarkMark
-    else none)))))
+    if eqb n 1 then Some Single
+    else (if eqb n 2 then Some Pair
+    else (if eqb n 3 then Some Cursive
+    else (if eqb n 4 then Some MarkBase
+    else (if eqb n 5 then Some MarkLigature
+    else (if eqb n 6 then Some MarkMark
+    else None)))))
 
 -- what refusal 6 asks of a subtable of this kind
 abbrev pub good_for : Kind → List ℕ → Bool

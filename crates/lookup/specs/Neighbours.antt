@@ -1,6 +1,6 @@
 -- The neighbours that a run finds by the seen bits. Assumes nothing.
+use Rattle.std.specs.Prelude.{None, Option, Some}
 use Rattle.std.specs.Prelude.{Bool, List, ℕ, ◌+◌, ◌-◌, length}
-use Rattle.std.proofs.Math.Option.{Option, some, none}
 use Rattle.ints.specs.Tally.{lowest, nearest}
 use Rattle.slots.specs.Slot.{Slot}
 use Rattle.slots.specs.Line.{slot}
@@ -17,8 +17,8 @@ seen ss i = flag_of Seen (slot ss i)
 
 -- the slot that was found, or missing, with a bound
 abbrev pub or_missing : ℕ → Option ℕ → Neighbour
-or_missing bound (some j) = Named j
-or_missing bound none = Missing bound
+or_missing bound (Some j) = Named j
+or_missing bound None = Missing bound
 
 -- the lowest seen slot from slot i up, or missing, with the slot count as bound
 abbrev pub seen_from : List Slot → ℕ → Neighbour

@@ -1,10 +1,11 @@
 -- The tests for which a run is refused, in order: 1 to 4 as of a single call, then 8, then 6. Assumes nothing.
+use Rattle.std.specs.Prelude.{None, Option, Some}
 use Rattle.std.specs.Prelude.{Bool, true, not, ◌||◌, List, [], ◌∷◌, ◌++◌, ℕ, ◌*◌, eqb, ltb, length}
-use Rattle.std.proofs.Math.Option.{Option, some, none}
 use Rattle.slots.specs.Checks.{bad_line}
 use Rattle.slots.specs.Line.{count, line_slots}
 use Rattle.answers.specs.Said.{done, Said, unless}
-use Rattle.checks.specs.Arguments.{bad_scale, slot_tests}
+use Rattle.ints.specs.Scale.{bad_scale}
+use Rattle.checks.specs.Arguments.{slot_tests}
 use Rattle.lookup.specs.Kinds.{good_for, kind_of}
 use Rattle.lookup.specs.Subtables.{every, most_subtables, subtables, total}
 use Rattle.lookup.specs.declared.kinds.Kind.{Kind}
@@ -20,8 +21,8 @@ unfit b lengths n places =
 
 -- refusal 6: the lookup type is none of the six, or some subtable isn't good, be it reached or not
 abbrev pub bad_lookup : Option Kind → List (List ℕ) → Bool
-bad_lookup (some kind) ts = not (every (good_for kind) ts)
-bad_lookup none ts = true
+bad_lookup (Some kind) ts = not (every (good_for kind) ts)
+bad_lookup None ts = true
 
 -- what is said of a run before it begins: a refusal, or nothing: done
 abbrev pub verdict : Settings → (l b lengths : List ℕ) (places : ℕ) → Said

@@ -1,4 +1,3 @@
-pub mod Meant  -- what code's values stand for
 pub mod Covered  -- the next covered place
 pub mod Calls  -- one single call
 pub mod Run  -- where a run stands, and one turn of it

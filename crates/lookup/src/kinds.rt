@@ -1,9 +1,16 @@
 // The lookup types of OpenType that the library has.
-ghost use Rattle.std.specs.Prelude.{◌≡◌};
+ghost use Rattle.std.specs.Prelude.{◌≡◌, MatchResult, None, Some};
+ghost use Rattle.answers.specs.declared.Refusal.TheVariants.{Subtable};
+ghost use Rattle.answers.specs.declared.WiderRefusal.TheVariants.{Shared};
 ghost use Rattle.lookup.specs.Kinds.{good_for, kind_of};
-ghost use Rattle.lookup.specs.code.Meant.{kind_known};
 
-#[derive(Clone, Copy)]
+use answers::{Refusal, WiderRefusal};
+use cursive::cursive_pos::CursivePos;
+use pair::pair_pos::PairPos;
+use single::single_pos::SinglePos;
+use targets::mark_pos::MarkPos;
+
+#[derive(Clone, Copy, PartialEq, Eq)]
 pub enum Kind {
     Single,
     Pair,
@@ -13,38 +20,48 @@ pub enum Kind {
     MarkMark,
 }
 
-// The kind of a lookup type, or that it has none.
-#[derive(Clone, Copy)]
-pub enum LookupType {
-    Known(Kind),
-    Unknown,
-}
+// No kind has the number.
+#[derive(Clone, Copy, PartialEq, Eq)]
+pub struct UnknownKind;
 
-// The kind of a lookup type, 1 to 6.
-pub fn kind_of(number: u32) -> LookupType
-    ensures { kind_known result ≡ kind_of number }
-{
-    match number {
-        1 => LookupType::Known(Kind::Single),
-        2 => LookupType::Known(Kind::Pair),
-        3 => LookupType::Known(Kind::Cursive),
-        4 => LookupType::Known(Kind::MarkBase),
-        5 => LookupType::Known(Kind::MarkLigature),
-        6 => LookupType::Known(Kind::MarkMark),
-        _ => LookupType::Unknown,
+// Of a run that is refusal 6.
+impl From<UnknownKind> for WiderRefusal {
+    ghost from_gives = { λ _ w. w ≡ Shared Subtable };
+
+    fn from(_: UnknownKind) -> WiderRefusal {
+        Refusal::Subtable.into()
     }
 }
 
-// The check of a subtable of this kind.
-pub fn is_good(kind: Kind, t: &[u8]) -> bool
-    ensures { result ≡ good_for kind t.now }
-{
-    match kind {
-        Kind::Single => single::single_pos::is_good(t),
-        Kind::Pair => pair::pair_pos::is_good(t),
-        Kind::Cursive => cursive::cursive_pos::is_good(t),
-        Kind::MarkBase => targets::mark_pos::is_good(t),
-        Kind::MarkLigature => targets::mark_pos::is_good(t),
-        Kind::MarkMark => targets::mark_pos::is_good(t),
+// The kind of a lookup type, 1 to 6.
+impl TryFrom<u32> for Kind {
+    type Error = UnknownKind;
+
+    ghost try_from_gives = { λ n r. MatchResult r (λ k. kind_of n ≡ Some k) (λ _. kind_of n ≡ None) };
+
+    fn try_from(n: u32) -> Result<Self, UnknownKind> {
+        match n {
+            1 => Ok(Kind::Single),
+            2 => Ok(Kind::Pair),
+            3 => Ok(Kind::Cursive),
+            4 => Ok(Kind::MarkBase),
+            5 => Ok(Kind::MarkLigature),
+            6 => Ok(Kind::MarkMark),
+            _ => Err(UnknownKind),
+        }
+    }
+}
+
+impl Kind {
+    // The check of a subtable of this kind.
+    pub fn is_good(self, t: &[u8]) -> bool
+        ensures { result ≡ good_for self t.now }
+    {
+        match self {
+            Kind::Single => SinglePos::new(t).is_some(),
+            Kind::Pair => PairPos::new(t).is_some(),
+            Kind::Cursive => CursivePos::new(t).is_some(),
+            Kind::MarkBase | Kind::MarkLigature | Kind::MarkMark => MarkPos::new(t).is_some(),
+        }
     }
 }

@@ -10,17 +10,15 @@ use slots::fields::{Flag, has_flag};
 use slots::shape::Shape;
 
 // The neighbour of slot 0.
+#[tactic(auto, using(crate::proofs::NeighbourLaws::previous_first))]
 pub fn first_neighbour(line: &[u8], shape: Shape, kind: Kind) -> Neighbour
     requires { Inside shape line.now 0 }
     ensures { result ≡ neighbour_for kind (slots shape line.now) 0 }
 {
     match kind {
         Kind::Pair => next_seen(line, shape, 1),
-        Kind::Single => Neighbour::Missing(0),
-        Kind::Cursive => Neighbour::Missing(0),
-        Kind::MarkBase => Neighbour::Missing(0),
-        Kind::MarkLigature => Neighbour::Missing(0),
-        Kind::MarkMark => Neighbour::Missing(0),
+        Kind::Single | Kind::Cursive | Kind::MarkBase | Kind::MarkLigature | Kind::MarkMark =>
+            Neighbour::Missing(0),
     }
 }
 
@@ -38,11 +36,8 @@ pub fn neighbour_after(
 {
     match kind {
         Kind::Pair => second_after(line, shape, i, near, n),
-        Kind::Cursive => last_seen(line, shape, i, near, n),
-        Kind::MarkMark => last_seen(line, shape, i, near, n),
-        Kind::Single => near,
-        Kind::MarkBase => near,
-        Kind::MarkLigature => near,
+        Kind::Cursive | Kind::MarkMark => last_seen(line, shape, i, near, n),
+        Kind::Single | Kind::MarkBase | Kind::MarkLigature => near,
     }
 }
 
@@ -52,13 +47,9 @@ fn second_after(line: &[u8], shape: Shape, i: usize, near: Neighbour, n: usize) 
     ensures { result ≡ seen_from (slots shape line.now) (n + 1) }
 {
     match near {
-        Neighbour::Named(j) => {
-            if n < j {
-                return near;
-            }
-            return next_seen(line, shape, n + 1);
-        }
-        Neighbour::Missing(_) => return near,
+        Neighbour::Named(j) if n < j => near,
+        Neighbour::Named(_) => next_seen(line, shape, n + 1),
+        Neighbour::Missing(_) => near,
     }
 }
 
@@ -68,12 +59,10 @@ fn next_seen(line: &[u8], shape: Shape, i: usize) -> Neighbour
     ensures { result ≡ seen_from (slots shape line.now) i }
 {
     let n = shape.count;
-    let mut j = i;
-    while j < n {
+    for j in i..n {
         if has_flag(line, shape, j, Flag::Seen) {
             return Neighbour::Named(j);
         }
-        j += 1;
     }
     Neighbour::Missing(n)
 }
@@ -83,9 +72,7 @@ fn last_seen(line: &[u8], shape: Shape, i: usize, near: Neighbour, n: usize) -> 
     requires { Inside shape line.now n × (i ≤ n) × (near ≡ previous (slots shape line.now) i) }
     ensures { result ≡ previous (slots shape line.now) n }
 {
-    let mut j = n;
-    while i < j {
-        j -= 1;
+    for j in (i..n).rev() {
         if has_flag(line, shape, j, Flag::Seen) {
             return Neighbour::Named(j);
         }

@@ -5,7 +5,7 @@ ghost use Rattle.lookup.specs.Kinds.{good_for};
 ghost use Rattle.lookup.specs.Refusals.{unfit};
 ghost use Rattle.lookup.specs.Subtables.{every, most_subtables, subtables as Subtables·all, total};
 
-use crate::kinds::{Kind, is_good};
+use crate::kinds::Kind;
 use crate::state::MOST_SUBTABLES;
 
 // Refusal 8: not one to eight subtables, lengths that don't add up to the buffer, or too few places for the records of
@@ -15,31 +15,20 @@ pub fn is_unfit(subtables: &[u8], lengths: &[usize], n: usize, places: usize) ->
     ensures { result ≡ unfit subtables.now lengths.now n places }
 {
     let c = lengths.len();
-    if c < 1 {
-        return true;
-    }
-    if MOST_SUBTABLES < c {
-        return true;
-    }
-    if !adds_up(lengths, subtables.len()) {
-        return true;
-    }
-    places < 2 * n * c
+    c < 1 || MOST_SUBTABLES < c || !adds_up(lengths, subtables.len()) || places < 2 * n * c
 }
 
 // Do the lengths add up to n? No sum that could wrap is made.
+#[tactic(auto, using(crate::proofs::SubtableLaws::lengths_left))]
 fn adds_up(lengths: &[usize], n: usize) -> bool
     ensures { result ≡ eqb (total lengths.now) n }
 {
     let mut left = n;
-    let mut k = 0;
-    while k < lengths.len() {
-        let length = lengths[k];
-        if left < length {
+    for len in lengths {
+        let Some(rest) = left.checked_sub(*len) else {
             return false;
-        }
-        left -= length;
-        k += 1;
+        };
+        left = rest;
     }
     left == 0
 }
@@ -49,15 +38,13 @@ pub fn all_good(kind: Kind, subtables: &[u8], lengths: &[usize]) -> bool
     requires { total lengths.now ≡ length subtables.now }
     ensures { result ≡ every (good_for kind) (Subtables·all lengths.now subtables.now) }
 {
-    let mut start = 0;
-    let mut k = 0;
-    while k < lengths.len() {
-        let end = start + lengths[k];
-        if !is_good(kind, &subtables[start..end]) {
+    let mut rest = subtables;
+    for len in lengths {
+        let (subtable, after) = rest.split_at(*len);
+        if !kind.is_good(subtable) {
             return false;
         }
-        start = end;
-        k += 1;
+        rest = after;
     }
     true
 }

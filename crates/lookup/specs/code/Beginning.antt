@@ -1,72 +1,64 @@
 -- Where a run begins, or why it doesn't. Assumes nothing.
-use Rattle.std.specs.Prelude.{false, List, ℕ, eqb, ltb, length, replicate, if◌then◌else◌}
-use Rattle.std.proofs.Math.Option.{Option, some, none}
+use Rattle.std.specs.Prelude.{Err, None, Ok, Option, Result, Some, false, List, ◌≡◌, ℕ, ltb, length, replicate, if◌then◌else◌}
 use Rattle.slots.specs.Axis.{direction_of}
 use Rattle.slots.specs.Slot.{Slot}
-use Rattle.slots.specs.Line.{line_slots, shape_of, shape_with}
-use Rattle.slots.specs.declared.axis.Direction.TheVariants.{LeftToRight}
-use Rattle.answers.specs.Said.{applied, declined, done, refused, Said}
-use Rattle.answers.specs.declared.Refusal.TheVariants.{Line, Direction, Number, Slot as BadSlot, Subtable}
+use Rattle.slots.specs.Line.{line_slots, shape_of}
+use Rattle.answers.specs.Said.{done, refused, wider_number}
+use Rattle.answers.specs.declared.Neighbour.{Neighbour}
+use Rattle.answers.specs.declared.Neighbour.TheVariants.{Missing}
+use Rattle.answers.specs.declared.WiderRefusal.{WiderRefusal}
 use Rattle.lookup.specs.Kinds.{kind_of}
 use Rattle.lookup.specs.Neighbours.{neighbour_for}
 use Rattle.lookup.specs.Refusals.{verdict}
 use Rattle.lookup.specs.Subtables.{most_subtables}
-use Rattle.lookup.specs.code.Run.{ended, goes}
-use Rattle.lookup.specs.declared.kinds.Kind.{Kind}
-use Rattle.lookup.specs.declared.kinds.Kind.TheVariants.{Single}
+use Rattle.lookup.specs.code.Calls.{unsearched}
 use Rattle.lookup.specs.declared.state.End.{End}
-use Rattle.lookup.specs.declared.state.End.TheVariants.{Done, Refused, Unfit}
+use Rattle.lookup.specs.declared.state.End.TheVariants.{Done}
 use Rattle.lookup.specs.declared.state.Lookup.{Lookup}
-use Rattle.lookup.specs.declared.state.Memory.{Memory}
+use Rattle.lookup.specs.declared.state.Searched.{Searched}
 use Rattle.lookup.specs.declared.state.Settings.{Settings}
 use Rattle.lookup.specs.declared.state.State.{State}
 
 -- no search has been made
-abbrev pub no_memory : Memory
-no_memory = record { until = replicate most_subtables 0; found = replicate most_subtables 0 }
+abbrev pub no_memory : List Searched
+no_memory = replicate most_subtables unsearched
 
--- a run that didn't begin is told nothing
-abbrev pub no_lookup : Lookup
-no_lookup = record { shape = shape_with 0 0; kind = Single; direction = LeftToRight; flag = 0; s = 0; u = 0 }
+-- what a run of the line l is told, checked
+pub record Told (g : Settings) (l : List ℕ) (k : Lookup) : Type 0 where
+  pub shape_is : k.shape ≡ shape_of g.size l
+  pub kind_is : kind_of g.kind ≡ Some k.kind
+  pub direction_is : k.frame.direction ≡ direction_of g.direction
+  pub flag_is : k.flag ≡ g.flag
+  pub s_is : k.frame.scale.s ≡ g.s
+  pub u_is : k.frame.scale.u ≡ g.u
 
-abbrev pub not_begun : End → State
-not_begun end = ended end 0 false no_memory no_lookup
-
--- the end of a run that is refused with this number: 1, 2, 3, 4, 8 or 6
-abbrev pub end_of : ℕ → End
-end_of n =
-    if eqb n 1 then Refused Line
-    else (if eqb n 2 then Refused Direction
-    else (if eqb n 3 then Refused Number
-    else (if eqb n 4 then Refused BadSlot
-    else (if eqb n 8 then Unfit
-    else Refused Subtable))))
-
--- what a run is told, checked
-abbrev pub lookup_of : Kind → Settings → List ℕ → Lookup
-lookup_of kind g l =
+-- at slot 0
+abbrev pub starts : Option End → Neighbour → Lookup → State
+starts end near l =
     record {
-      shape = shape_of g.size l;
-      kind = kind;
-      direction = direction_of g.direction;
-      flag = g.flag;
-      s = g.s;
-      u = g.u;
+      end = end;
+      index = 0;
+      subtable = 0;
+      start = 0;
+      attached = false;
+      near = near;
+      known = 0;
+      memory = no_memory;
+      lookup = l;
     }
 
 -- a run begins at slot 0, or is at once at the line's end
 abbrev pub first_state : Lookup → List Slot → State
 first_state l ss =
-    if ltb 0 (length ss) then goes 0 0 0 false (neighbour_for l.kind ss 0) 0 no_memory l
-    else ended Done 0 false no_memory l
+    if ltb 0 (length ss) then starts None (neighbour_for l.kind ss 0) l else starts (Some Done) (Missing 0) l
 
--- by what was said of it before it begins
-abbrev pub begun_as : Said → Option Kind → Settings → List ℕ → State
-begun_as (refused n) kind g l = not_begun (end_of n)
-begun_as done (some kind) g l = first_state (lookup_of kind g l) (line_slots g.size l)
-begun_as done none g l = not_begun (Refused Subtable)
-begun_as (applied n hs a) kind g l = not_begun (Refused Subtable)
-begun_as (declined hs) kind g l = not_begun (Refused Subtable)
+-- a run that nothing refuses begins, with what it was told
+pub record BegunWith (g : Settings) (l b lengths : List ℕ) (places : ℕ) (st : State) : Type 0 where
+  pub not_refused : verdict g l b lengths places ≡ done
+  pub told : Told g l st.lookup
+  pub first : st ≡ first_state st.lookup (line_slots g.size l)
 
-abbrev pub begun : (l b lengths : List ℕ) (places : ℕ) → Settings → State
-begun l b lengths places g = begun_as (verdict g l b lengths places) (kind_of g.kind) g l
+-- it begins, or is refused
+abbrev pub Begun : (g : Settings) (l b lengths : List ℕ) (places : ℕ) → Result State WiderRefusal → Type 0
+Begun g l b lengths places (Ok st) = BegunWith g l b lengths places st
+Begun g l b lengths places (Err w) = verdict g l b lengths places ≡ refused (wider_number 8 w)

@@ -1,80 +1,58 @@
 -- Where a run stands, and one turn of it: the next covered place, the single call there, and where the run goes on.
 -- Assumes nothing.
-use Rattle.std.specs.Prelude.{Bool, true, false, ◌||◌, List, ◌≡◌, ℕ, ◌+◌, ◌≤◌, ◌<◌, get_or, length, take}
-use Rattle.ints.specs.code.Scale.{InScale}
+use Rattle.std.specs.Prelude.{None, Option, Some, true, false, ◌||◌, List, ◌≡◌, ℕ, ◌+◌, ◌≤◌, ◌<◌, get_or, length, take}
 use Rattle.slots.specs.Checks.{bad_line}
 use Rattle.slots.specs.Line.{shape_of}
 use Rattle.slots.specs.code.Shape.{Fits}
 use Rattle.answers.specs.Outcome.{line_after}
 use Rattle.answers.specs.Said.{Said, applied, declined, refused, done, hazards_of}
-use Rattle.answers.specs.declared.Neighbour.{Neighbour}
-use Rattle.answers.specs.declared.Neighbour.TheVariants.{Missing}
+use Rattle.answers.specs.declared.UpToTwo.{UpToTwo}
 use Rattle.checks.specs.Ranges.{bad_slots}
 use Rattle.records.specs.Records.{records_of}
-use Rattle.records.specs.declared.Records.TheVariants.{None}
+use Rattle.records.specs.declared.HazardRecord.{HazardRecord}
+use Rattle.answers.specs.declared.UpToTwo.TheVariants.{None as NoRecords}
 use Rattle.lookup.specs.Kinds.{good_for}
 use Rattle.lookup.specs.Neighbours.{neighbour_for}
 use Rattle.lookup.specs.Subtables.{every, most_subtables, subtable, subtables, total}
-use Rattle.lookup.specs.code.Calls.{call_now, remembered, RightAt, slots_now}
+use Rattle.lookup.specs.code.Calls.{call_now, remembering, RightAt, slots_now}
 use Rattle.lookup.specs.code.Covered.{next_place}
 use Rattle.lookup.specs.declared.covered.Place.{Place}
-use Rattle.lookup.specs.declared.covered.Place.TheVariants.{At, Nowhere}
 use Rattle.lookup.specs.declared.state.End.{End}
 use Rattle.lookup.specs.declared.state.End.TheVariants.{Done, Endless}
-use Rattle.lookup.specs.declared.state.Lookup.{Lookup}
-use Rattle.lookup.specs.declared.state.Memory.{Memory}
 use Rattle.lookup.specs.declared.state.State.{State}
-use Rattle.lookup.specs.declared.turns.Turned.{Turned}
 
--- slot i with subtable k, which starts at byte `start`, is next; the neighbour of slot `known` is known
-abbrev pub goes : (i k start : ℕ) (attached : Bool) (near : Neighbour) (known : ℕ) (m : Memory) (l : Lookup) → State
-goes i k start attached near known m l =
-    record {
-      code = 0;
-      end = Done;
+-- what a turn gives: the records of its call, and where the run stands then
+pub record Turned : Type 0 where
+  pub records : UpToTwo HazardRecord
+  pub next : State
+
+-- the same run, at slot i and subtable k, which starts at byte `start`, with the neighbour of that slot
+abbrev pub moved_to : List ℕ → State → (i k start : ℕ) → State
+moved_to l st i k start =
+    record st {
       index = i;
       subtable = k;
       start = start;
-      attached = attached;
-      near = near;
-      known = known;
-      memory = m;
-      lookup = l;
+      near = neighbour_for st.lookup.kind (slots_now l st) i;
+      known = i;
     }
 
--- the run has ended; where a call was refused, at slot i
-abbrev pub ended : (end : End) (i : ℕ) (attached : Bool) (m : Memory) (l : Lookup) → State
-ended end i attached m l =
-    record {
-      code = 1;
-      end = end;
-      index = i;
-      subtable = 0;
-      start = 0;
-      attached = attached;
-      near = Missing 0;
-      known = 0;
-      memory = m;
-      lookup = l;
-    }
-
--- the same run, at another slot and subtable, with the neighbour of that slot
-abbrev pub moved_to : List ℕ → State → (i k start : ℕ) → State
-moved_to l st i k start =
-    goes i k start st.attached (neighbour_for st.lookup.kind (slots_now l st) i) i st.memory st.lookup
+-- the run has ended, where it stands
+abbrev pub ended : End → State → State
+ended end st = record st { end = Some end }
 
 -- where it goes on after a call that said s, with a subtable that ends at byte `end`: one that is applied wins; after a
 -- decline the next subtable is tried; a refusal ends it
-abbrev pub next_state : (end : ℕ) (st : State) (m : Memory) → Said → State
-next_state end st m (applied n hs a) = goes n 0 0 (st.attached || a) st.near st.known m st.lookup
-next_state end st m (declined hs) =
-    goes st.index (st.subtable + 1) end st.attached st.near st.known m st.lookup
-next_state end st m (refused n) = ended Endless st.index st.attached st.memory st.lookup
-next_state end st m done = ended Endless st.index st.attached st.memory st.lookup
+abbrev pub next_state : (end : ℕ) (st : State) → Said → State
+next_state end st (applied n hs a) =
+    record st { index = n; subtable = 0; start = 0; attached = st.attached || a }
+next_state end st (declined hs) = record st { subtable = st.subtable + 1; start = end }
+next_state end st (refused n) = ended Endless st
+next_state end st done = ended Endless st
 
 -- what is made of such a call
-abbrev pub turned_by : (end : ℕ) (st : State) (m : Memory) → Said → Turned
-turned_by end st m s = record { records = records_of (hazards_of s); next = next_state end st m s }
+abbrev pub turned_by : (end : ℕ) (st : State) → Said → Turned
+turned_by end st s = record { records = records_of (hazards_of s); next = next_state end st s }
 
 -- ---- one call, on the line l with the subtables of the buffer b
 module _ (l b lengths : List ℕ) (st : State) where
@@ -92,20 +70,20 @@ module _ (l b lengths : List ℕ) (st : State) where
 
   -- its records, and where the run goes on
   unfoldable pub called : Turned
-  called = turned_by (st.start + get_or lengths st.subtable 0) st (remembered subtable_now (slots_now l st) st) said_now
+  called = turned_by (st.start + get_or lengths st.subtable 0) (remembering subtable_now (slots_now l st) st) said_now
 
 -- ---- one turn: the call at the next covered place, or the line's end
 module _ (l b lengths : List ℕ) (st : State) where
-  abbrev pub place_now : Place
+  abbrev pub place_now : Option Place
   place_now = next_place (slots_now l st) b lengths st.index st.subtable st.start
 
-  abbrev pub turn_at : Place → Turned
-  turn_at (At i k start m) = called l b lengths (moved_to l st i k start)
-  turn_at Nowhere = record { records = None; next = ended Done st.index st.attached st.memory st.lookup }
+  abbrev pub turn_at : Option Place → Turned
+  turn_at (Some p) = called l b lengths (moved_to l st p.index p.subtable p.start)
+  turn_at None = record { records = NoRecords; next = ended Done st }
 
-  abbrev pub line_at : Place → List ℕ
-  line_at (At i k start m) = line_called l b lengths (moved_to l st i k start)
-  line_at Nowhere = l
+  abbrev pub line_at : Option Place → List ℕ
+  line_at (Some p) = line_called l b lengths (moved_to l st p.index p.subtable p.start)
+  line_at None = l
 
   -- its records, and where the run goes on
   unfoldable pub turn_of : Turned
@@ -132,8 +110,7 @@ pub record Near (l : List ℕ) (st : State) : Type 0 where
 pub record Good (b lengths : List ℕ) (st : State) : Type 0 where
   pub one : 0 < length lengths
   pub few : length lengths ≤ most_subtables
-  pub untils : length st.memory.until ≡ most_subtables
-  pub founds : length st.memory.found ≡ most_subtables
+  pub remembered : length st.memory ≡ most_subtables
   pub adds_up : total lengths ≡ length b
   pub within : st.subtable ≤ length lengths
   pub start_is : st.start ≡ total (take st.subtable lengths)
@@ -141,8 +118,7 @@ pub record Good (b lengths : List ℕ) (st : State) : Type 0 where
 
 -- all of it
 pub record Fine (l b lengths : List ℕ) (st : State) : Type 0 where
-  pub goes_on : st.code ≡ 0
-  pub scale : InScale st.lookup.s st.lookup.u
+  pub goes_on : st.end ≡ None
   pub whole : Whole l st
   pub near : Near l st
   pub good : Good b lengths st
@@ -158,4 +134,4 @@ pub record Placed (l b lengths : List ℕ) (st : State) : Type 0 where
 
 -- where the run goes on, all of it holds again
 abbrev pub Next : (l b lengths : List ℕ) (st : State) → Type 0
-Next l b lengths st = st.code ≡ 0 → Fine l b lengths st
+Next l b lengths st = st.end ≡ None → Fine l b lengths st

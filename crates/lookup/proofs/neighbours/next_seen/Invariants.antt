@@ -1,12 +1,8 @@
--- `lookup::neighbours::next_seen` meets its contract. The loop's invariant: what is asked of i is asked of j. The measure is what is left of the slots. Assumes nothing.
+-- `lookup::neighbours::next_seen` meets its contract. The loop's invariant: what is asked of i is asked of j. Assumes nothing.
 use mathlib.Core.Path.{◌≡◌}
-use Prim.Native.Nat.{◌-◌, ◌≤◌}
 use Rattle.slots.specs.Line.{slots}
 use Rattle.lookup.specs.Neighbours.{seen_from}
 use Rattle.lookup.proofs.neighbours.next_seen.Given as goal
 
 abbrev pub invariant-loop-j : goal.invariant-loop-j
-invariant-loop-j l = (l.j ≤ l.shape.count) × (seen_from (slots l.shape l.line) l.i ≡ seen_from (slots l.shape l.line) l.j)
-
-abbrev pub decreases-loop-j : goal.decreases-loop-j
-decreases-loop-j l = l.shape.count - l.j
+invariant-loop-j l = seen_from (slots l.shape l.line) l.i ≡ seen_from (slots l.shape l.line) l.j

@@ -5,8 +5,8 @@ use Rattle.slots.specs.Line.{slots}
 use Rattle.lookup.proofs.NeighbourLaws.{missing_moved, named_moved}
 use Rattle.lookup.proofs.neighbours.second_after.Goals as goal
 
-pub returns-then-n-j : goal.returns-then-n-j
-returns-then-n-j c =
+pub returns-in-Named : goal.returns-in-Named
+returns-in-Named c =
     let a = c.args in
     named_moved (slots a.shape a.line.now) a.i a.n (omega arith) _ (sym c.in-Named.is ∙ c.requires.2) c.if-n-j.true
 

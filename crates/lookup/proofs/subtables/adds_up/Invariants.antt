@@ -1,11 +1,9 @@
--- `lookup::subtables::adds_up` meets its contract: what is left is what is left of n after the lengths that were passed. Assumes nothing.
-use Prim.Native.Nat.{◌-◌}
-use lib.ListN.{length}
-use Rattle.lookup.proofs.SubtableLaws.{Left}
+-- `lookup::subtables::adds_up` meets its contract: the lengths that are left lack as much to `left` as all do to n. Assumes nothing.
+use mathlib.Core.Path.{◌≡◌}
+use Prim.Native.Nat.{◌+◌}
+use lib.ListN.{drop}
+use Rattle.lookup.specs.Subtables.{total}
 use Rattle.lookup.proofs.subtables.adds_up.Given as goal
 
-abbrev pub invariant-loop-k : goal.invariant-loop-k
-invariant-loop-k l = Left l.lengths l.n l.k l.left
-
-abbrev pub decreases-loop-k : goal.decreases-loop-k
-decreases-loop-k l = length l.lengths - l.k
+abbrev pub invariant-loop-len : goal.invariant-loop-len
+invariant-loop-len l = total (drop l.len-index l.lengths) + l.n ≡ total l.lengths + l.left
