@@ -1,5 +1,5 @@
 // The advances between a slot and its parent, read in one pass over the part of the line that has them.
-ghost use Rattle.std.specs.Prelude.{◌≡◌, ◌<◌};
+ghost use Rattle.std.specs.Prelude.{◌≡◌, ◌<◌, Bool, ℕ};
 ghost use Rattle.ints.specs.Limits.{whole32};
 ghost use Rattle.ints.specs.code.Saturating.{unlifted};
 ghost use Rattle.ints.specs.code.Signed.{val};
@@ -30,20 +30,20 @@ pub fn shift(line: &[u8], shape: Shape, d: Direction, i: usize, j: usize, from: 
     ensures { (val result.x ≡ shifted d X (slots shape line.now) i j (val from.x))
         × (val result.y ≡ shifted d Y (slots shape line.now) i j (val from.y)) }
 {
-    if slots::axis::is_forward(d) {
+    if d.is_forward() {
         if j < i {
             return step_all(
                 slots::fields::slots_between(line, shape, j, i),
                 part_shape(shape, i - j),
                 from,
-                true,
+                lifted_sub,
             );
         }
         return step_all(
             slots::fields::slots_between(line, shape, i, j),
             part_shape(shape, j - i),
             from,
-            false,
+            lifted_add,
         );
     }
     if j < i {
@@ -51,54 +51,42 @@ pub fn shift(line: &[u8], shape: Shape, d: Direction, i: usize, j: usize, from: 
             slots::fields::slots_between(line, shape, j + 1, i + 1),
             part_shape(shape, i - j),
             from,
-            false,
+            lifted_add,
         );
     }
     step_all(
         slots::fields::slots_between(line, shape, i + 1, j + 1),
         part_shape(shape, j - i),
         from,
-        true,
+        lifted_sub,
     )
 }
 
-// The advances of a part subtracted from both offsets or added to them, one by one.
-fn step_all(part: &[u8], shape: Shape, from: Offsets, subtract: bool) -> Offsets
-    requires { Fits shape part.now }
+// The advances of a part taken into both offsets, one by one, by a step that subtracts or adds one.
+fn step_all<F: Fn(u64, Signed) -> u64>(part: &[u8], shape: Shape, from: Offsets, step: F) -> Offsets
+    ghost subtract: { Bool }
+    requires fits { Fits shape part.now }
+    requires callable { (z v : ℕ) → z < whole32 → v < whole32 → F.pre step z v }
+    requires steps { (z v n : ℕ) → z < whole32 → v < whole32 → F.post step z v n
+        → (unlifted n ≡ step_by subtract (unlifted z) (val v)) × (n < whole32) }
     ensures { (val result.x ≡ stepwise (step_by subtract) (val from.x)
         (advances X (slots shape part.now))) × (val result.y
         ≡ stepwise (step_by subtract) (val from.y) (advances Y (slots shape part.now))) }
 {
-    let n = shape.count;
     let mut x = lift(from.x);
     let mut y = lift(from.y);
-    let mut k = 0;
-    while k < n {
+    for k in 0..shape.count {
         x = step(
             x,
             slots::fields::get(part, shape, k, Measure::Advance, Axis::X),
-            subtract,
         );
         y = step(
             y,
             slots::fields::get(part, shape, k, Measure::Advance, Axis::Y),
-            subtract,
         );
-        k += 1;
     }
     Offsets {
         x: unlift(x),
         y: unlift(y),
     }
-}
-
-// A lifted sum z with v subtracted or added.
-fn step(z: u64, v: Signed, subtract: bool) -> u64
-    requires { z < whole32 }
-    ensures { (unlifted result ≡ step_by subtract (unlifted z) (val v)) × (result < whole32) }
-{
-    if subtract {
-        return lifted_sub(z, v);
-    }
-    lifted_add(z, v)
 }

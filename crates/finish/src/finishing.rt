@@ -16,24 +16,21 @@ pub fn finish_line(line: &mut [u8], shape: Shape, d: Direction, limit: u32)
     requires { Fits shape line.old }
     ensures { slots shape line.new ≡ finished d limit true (slots shape line.old) }
 {
-    if slots::axis::is_forward(d) {
+    if d.is_forward() {
         settle_up(line, shape, d, limit);
         return;
     }
     settle_down(line, shape, d, limit);
 }
 
-// Every slot settled, from the first up.
+// Every slot settled, from the first up. (One loop for both, over an iterator, would take a definition for any order.)
 fn settle_up(line: &mut [u8], shape: Shape, d: Direction, limit: u32)
     requires { Fits shape line.old }
     ensures { slots shape line.new ≡ settled_up d limit (slots shape line.old)
         shape.count }
 {
-    let n = shape.count;
-    let mut i = 0;
-    while i < n {
+    for i in 0..shape.count {
         settle_slot(line, shape, d, i, limit);
-        i += 1;
     }
 }
 
@@ -43,9 +40,7 @@ fn settle_down(line: &mut [u8], shape: Shape, d: Direction, limit: u32)
     ensures { slots shape line.new ≡ settled_down d limit (slots shape line.old)
         shape.count }
 {
-    let mut i = shape.count;
-    while 0 < i {
-        i -= 1;
+    for i in (0..shape.count).rev() {
         settle_slot(line, shape, d, i, limit);
     }
 }

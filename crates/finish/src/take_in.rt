@@ -3,7 +3,7 @@ ghost use Rattle.std.specs.Prelude.{◌≡◌, if◌then◌else◌};
 ghost use Rattle.ints.specs.Saturating.{sat_add};
 ghost use Rattle.ints.specs.code.Signed.{val};
 ghost use Rattle.slots.specs.code.Shape.{Inside};
-ghost use Rattle.slots.specs.Line.{shape_with, slot, slots};
+ghost use Rattle.slots.specs.Line.{slot, slots};
 ghost use Rattle.slots.specs.Fields.{offset};
 ghost use Rattle.finish_rules.specs.Finish.{is_main, taken_in};
 
@@ -16,23 +16,18 @@ use slots::layout::{CURSIVE_TYPE, MARK_TYPE};
 use slots::shape::Shape;
 
 // Slot i takes its parent j in. The type is compared as a whole byte: any other adds nothing.
-pub fn take_in(line: &mut [u8], size: usize, n: usize, d: Direction, i: usize, j: usize)
-    requires { Inside (shape_with size n) line.old i × Inside (shape_with size n) line.old j }
-    ensures { slots (shape_with size n) line.new
-        ≡ taken_in d (slots (shape_with size n) line.old) i j }
+pub fn take_in(line: &mut [u8], shape: Shape, d: Direction, i: usize, j: usize)
+    requires { Inside shape line.old i × Inside shape line.old j }
+    ensures { slots shape line.new ≡ taken_in d (slots shape line.old) i j }
 {
-    let shape = Shape {
-        size: size,
-        count: n,
-    };
     let kind = slots::fields::get_byte(line, shape, i, ByteField::AttachType);
+    // One test and then the other: a `match` of the type takes four instructions more for each mark.
     if kind == MARK_TYPE {
         take_in_mark(line, shape, d, i, j);
         return;
     }
     if kind == CURSIVE_TYPE {
         take_in_cursive(line, shape, d, i, j);
-        return;
     }
 }
 
@@ -44,7 +39,7 @@ fn take_in_mark(line: &mut [u8], shape: Shape, d: Direction, i: usize, j: usize)
 {
     let x = mark_from(line, shape, d, i, j, Axis::X);
     let y = mark_from(line, shape, d, i, j, Axis::Y);
-    let to = shift(line, shape, d, i, j, Offsets { x: x, y: y });
+    let to = shift(line, shape, d, i, j, Offsets { x, y });
     slots::fields::set(line, shape, i, Measure::Offset, Axis::X, to.x);
     slots::fields::set(line, shape, i, Measure::Offset, Axis::Y, to.y);
 }
@@ -55,7 +50,7 @@ fn take_in_cursive(line: &mut [u8], shape: Shape, d: Direction, i: usize, j: usi
         × ((slot (slots shape line.old) i).attach_type ≡ 2) }
     ensures { slots shape line.new ≡ taken_in d (slots shape line.old) i j }
 {
-    let a = slots::axis::cross_axis(d);
+    let a = d.cross_axis();
     let own = slots::fields::get(line, shape, i, Measure::Offset, a);
     let above = slots::fields::get(line, shape, j, Measure::Offset, a);
     slots::fields::set(line, shape, i, Measure::Offset, a, sat_add(own, above));
@@ -79,14 +74,5 @@ fn mark_from(line: &[u8], shape: Shape, d: Direction, i: usize, j: usize, a: Axi
 fn is_main(d: Direction, a: Axis) -> bool
     ensures { result ≡ is_main d a }
 {
-    match a {
-        Axis::X => match slots::axis::main_axis(d) {
-            Axis::X => true,
-            Axis::Y => false,
-        },
-        Axis::Y => match slots::axis::main_axis(d) {
-            Axis::X => false,
-            Axis::Y => true,
-        },
-    }
+    a == d.main_axis()
 }

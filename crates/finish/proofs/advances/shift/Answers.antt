@@ -6,53 +6,30 @@ use Prim.Native.Nat.{ℕ, ◌+◌, ◌-◌}
 use native.Mathlib.Omega.{arith}
 use Rattle.ints.specs.code.Signed.{val}
 use Rattle.slots.specs.Slot.{Slot}
-use Rattle.slots.specs.code.Shape.{Fits, part_shape}
+use Rattle.slots.specs.code.Shape.{part_shape}
 use Rattle.slots.specs.Line.{slots}
 use Rattle.slots.specs.declared.shape.Shape.{Shape}
 use Rattle.finish_rules.proofs.WalkLaws.{walked_part}
 use Rattle.finish.proofs.advances.shift.Goals as goal
 
 -- the shape that code makes for the part is the part's
-part_fits : (w v : Shape) (n m : ℕ) (p : List ℕ) → v ≡ part_shape w n → n ≡ m → Fits (part_shape w m) p → Fits v p
-part_fits w v n m p e g f = rw (e, g) f
-
 part_is : {ss : List Slot} (w v : Shape) (n m : ℕ) (p : List ℕ) → v ≡ part_shape w n → n ≡ m → slots (part_shape w m) p ≡ ss → slots v p ≡ ss
 part_is w v n m p e g f = rw (e, g) f
-
-pub step_all-requires : goal.step_all-requires
-step_all-requires c =
-    let a = c.args in
-    part_fits a.shape _ (a.i - a.j) (a.i - a.j) _ c.part_shape.ensures (omega arith) c.slots_between.ensures.1
 
 pub returns-then-j-i : goal.returns-then-j-i
 returns-then-j-i c =
     let a = c.args in
     walked_part a.d (slots a.shape a.line.now) a.i a.j true true (val a.from.x) (val a.from.y) (sym c.is_forward.ensures ∙ c.if-is_forward.true) c.if-j-i.true (part_is a.shape _ (a.i - a.j) (a.i - a.j) _ c.part_shape.ensures (omega arith) c.slots_between.ensures.0) c.step_all.ensures
 
-pub step_all-requires-then-is_forward : goal.step_all-requires-then-is_forward
-step_all-requires-then-is_forward c =
-    let a = c.args in
-    part_fits a.shape _ (a.j - a.i) (a.j - a.i) _ c.part_shape-then-is_forward.ensures (omega arith) c.slots_between-then-is_forward.ensures.1
-
 pub returns-then-is_forward : goal.returns-then-is_forward
 returns-then-is_forward c =
     let a = c.args in
     walked_part a.d (slots a.shape a.line.now) a.i a.j true false (val a.from.x) (val a.from.y) (sym c.is_forward.ensures ∙ c.if-is_forward.true) c.if-j-i.false (part_is a.shape _ (a.j - a.i) (a.j - a.i) _ c.part_shape-then-is_forward.ensures (omega arith) c.slots_between-then-is_forward.ensures.0) c.step_all-then-is_forward.ensures
 
-pub step_all-requires-then-j-i-2 : goal.step_all-requires-then-j-i-2
-step_all-requires-then-j-i-2 c =
-    let a = c.args in
-    part_fits a.shape _ (a.i - a.j) (a.i + 1 - (a.j + 1)) _ c.part_shape-then-j-i-2.ensures (omega arith) c.slots_between-then-j-i-2.ensures.1
-
 pub returns-then-j-i-2 : goal.returns-then-j-i-2
 returns-then-j-i-2 c =
     let a = c.args in
     walked_part a.d (slots a.shape a.line.now) a.i a.j false true (val a.from.x) (val a.from.y) (sym c.is_forward.ensures ∙ c.if-is_forward.false) c.if-j-i-2.true (part_is a.shape _ (a.i - a.j) (a.i + 1 - (a.j + 1)) _ c.part_shape-then-j-i-2.ensures (omega arith) c.slots_between-then-j-i-2.ensures.0) c.step_all-then-j-i-2.ensures
-
-pub step_all-requires-2 : goal.step_all-requires-2
-step_all-requires-2 c =
-    let a = c.args in
-    part_fits a.shape _ (a.j - a.i) (a.j + 1 - (a.i + 1)) _ c.part_shape-2.ensures (omega arith) c.slots_between-2.ensures.1
 
 pub returns : goal.returns
 returns c =

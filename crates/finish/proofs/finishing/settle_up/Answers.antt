@@ -9,17 +9,15 @@ use Rattle.finish.proofs.finishing.settle_up.Goals as goal
 
 pub loop-i-init : goal.loop-i-init
 unfolding settled_up
-loop-i-init c = (omega arith, refl, refl, refl)
+loop-i-init c = refl
 
 pub loop-i-preserved : goal.loop-i-preserved
 loop-i-preserved c =
-    let at-loop = c.loop-i in
     let a = c.args in
-    (omega arith, at-loop.invariant.1, omega arith, up_more a.d a.limit (slots a.shape a.line.now) at-loop.i at-loop.invariant.3 c.settle_slot.ensures)
+    up_more a.d a.limit (slots a.shape a.line.now) c.loop-i.i c.loop-i.invariant c.settle_slot.ensures
 
 pub returns : goal.returns
 returns c =
-    let at-loop = c.loop-i in
     let a = c.args in
-    let all : at-loop.i ≡ a.shape.count = omega arith in
-    at-loop.invariant.3 ∙ ap (λ (i : ℕ). settled_up a.d a.limit (slots a.shape a.line.now) i) all
+    let all : c.loop-i.i ≡ a.shape.count = omega arith in
+    c.loop-i.invariant ∙ ap (λ (i : ℕ). settled_up a.d a.limit (slots a.shape a.line.now) i) all
