@@ -1,11 +1,12 @@
--- The ways through an applying call: refused by its checks, refused for its subtable, or handed to its core. Assumes nothing.
-use mathlib.Core.Path.{◌≡◌, refl, sym, ap, ◌∙◌}
+-- An applying call, once its checks refuse nothing: it is its core. Assumes nothing.
+use Rattle.std.specs.Prelude.{Err, is_none, MatchOption, None, Ok, Option, Some}
+use mathlib.Core.Path.{◌≡◌, sym, ap, ◌∙◌}
 use mathlib.Core.Bool.{Bool, true, false, not}
 use mathlib.Core.List.{List, [], ◌∷◌, ◌++◌}
 use Prim.Native.Nat.{ℕ, ◌<◌}
 use lib.ListN.{length}
 use Rattle.ints.specs.BigEndian.{AllBytes}
-use Rattle.ints.specs.code.Scale.{InScale}
+use Rattle.ints.specs.Scale.{bad_scale}
 use Rattle.slots.specs.Axis.{direction_of}
 use Rattle.slots.specs.Checks.{bad_line}
 use Rattle.slots.specs.Slot.{Slot}
@@ -13,21 +14,17 @@ use Rattle.slots.specs.code.Shape.{Inside}
 use Rattle.slots.specs.Line.{line_slots, shape_of, slots}
 use Rattle.slots.specs.declared.axis.Direction.{Direction}
 use Rattle.slots.specs.declared.shape.Shape.{Shape}
-use Rattle.slots.proofs.LineLaws.{length_slots}
+use Rattle.slots.proofs.LineLaws.{length_slots, shapely}
 use Rattle.answers.specs.Said.{done, refusal_number, refused, Said, unless}
 use Rattle.answers.specs.Outcome.{answer_to, Call, Made}
 use Rattle.answers.specs.code.Effect.{MadeOn}
 use Rattle.answers.specs.declared.Refusal.{Refusal}
-use Rattle.answers.proofs.OutcomeLaws.{made_by, made_refused, outcome_refused}
+use Rattle.answers.proofs.OutcomeLaws.{made_by, outcome_refused}
 use Rattle.answers.proofs.TestLaws.{clear_first, clear_parts, go_on, of_unless, refused_early}
-use Rattle.checks.specs.code.Checked.{SlotsChecked}
+use Rattle.checks.specs.code.Checked.{ApplyingChecked}
 use Rattle.checks.specs.Neighbours.{bad_place}
-use Rattle.checks.specs.Arguments.{applying, bad_scale, slot_tests}
-use Rattle.checks.specs.declared.arguments.Checked.{Checked}
-use Rattle.checks.specs.declared.arguments.Checked.TheVariants.{Slots, Refused}
+use Rattle.checks.specs.Arguments.{applying, applying_tests, slot_tests}
 use Rattle.checks.specs.declared.neighbours.Beside.{Beside}
-use Rattle.checks.proofs.CheckLaws.{Clear, clear}
-use Rattle.checks.proofs.TestLaws.{in_scale, number_good}
 use Rattle.gpos.proofs.NeighbourLaws.{in_place, Near}
 
 -- the call: its numbers, what is beside its index, whether its subtable is good, and its core by the direction
@@ -43,82 +40,54 @@ pub record Parts : Type 0 where
 abbrev pub call_of : Parts → Call
 call_of p = applying p.direction p.s p.u (λ ss. bad_place (length ss) p.index p.beside) (not p.good) p.core
 
--- what its checks found, refusals 1 to 4
-abbrev pub Looked : Parts → ℕ → List ℕ → Checked → Type 0
-Looked p z l x = SlotsChecked z l p.direction (bad_scale p.s p.u) x
+abbrev tests : Parts → Bool → List Slot → List (Bool × ℕ)
+tests p bad ss = applying_tests ss p.direction p.s p.u (bad_place (length ss) p.index p.beside) bad
 
-abbrev first_tests : Parts → List Slot → List (Bool × ℕ)
-first_tests p ss = slot_tests ss p.direction (bad_scale p.s p.u)
+-- what holds of each refusal, and of what the core says where the index is in its place, holds of the answer
+pub of_made : (p : Parts) (z : ℕ) (l : List ℕ) (P : Said → Type 0) → ((n : ℕ) → P (refused n))
+    → ((p.index < length (line_slots z l)) × Near (length (line_slots z l)) p.index p.beside → P ((p.core (direction_of p.direction)).says (line_slots z l)))
+    → {given : Said} {l' : List ℕ} → Made (call_of p) z l given l' → P given
+of_made p z l P refuses follows o =
+    let ss = line_slots z l in
+    let first : List (Bool × ℕ) = (bad_line z l, 1) ∷ slot_tests ss p.direction (bad_scale p.s p.u) in
+    let last : List (Bool × ℕ) = (bad_place (length ss) p.index p.beside, 5) ∷ (not p.good, 6) ∷ [] in
+    rw o.answer
+    (of_unless P refuses (first ++ last) ((p.core (direction_of p.direction)).says ss) (λ e.
+    follows (in_place (length ss) p.index p.beside (clear_first _ 5 ((not p.good, 6) ∷ []) (clear_parts first last e).1).0)))
 
-abbrev last_tests : Parts → List Slot → List (Bool × ℕ)
-last_tests p ss = (bad_place (length ss) p.index p.beside, 5) ∷ (not p.good, 6) ∷ []
+-- a subtable that didn't pass its check is none
+bad_is : (good : Bool) {A : Type 0} (P : A → Type 0) (o : Option A) → MatchOption o (good ≡ false) (λ (x : A). (good ≡ true) × P x) → is_none o ≡ not good
+bad_is good P None e = ap not (sym e)
+bad_is good P (Some x) e = ap not (sym e.0)
 
--- what is known where they refuse nothing, and the line has the shape w
-abbrev pub Cleared : Parts → ℕ → List ℕ → Shape → Type 0
-Cleared p z l w = Clear z l (unless (first_tests p (line_slots z l)) done) w
-
--- and where the index is in its place too: all that the core requires but the subtable
-pub record Passed (p : Parts) (l : List ℕ) (w : Shape) : Type 0 where
-  pub inside : Inside w l p.index
-  pub near : Near w.count p.index p.beside
-  pub scale : InScale p.s p.u
-
-module _ (p : Parts) (z : ℕ) (l : List ℕ) where
-  abbrev ss : List Slot
-  ss = line_slots z l
-
-  -- what the core says
-  abbrev core_says : List Slot → Said
-  core_says = (p.core (direction_of p.direction)).says
-
-  pub refused_by : {x : Checked} (r : Refusal) → x ≡ Refused r → Looked p z l x → Made (call_of p) z l (refused (refusal_number r)) l
-  refused_by r e looked =
+-- ---- the subtable was checked so, and the checks that follow found something of the line l, which has a shape
+module _ (p : Parts) (z : ℕ) (l : List ℕ) {A C : Type 0} (shape : C → Shape) (P : A → Type 0) (checked : Option A) (tested : MatchOption checked (p.good ≡ false) (λ (x : A). (p.good ≡ true) × P x)) where
+  -- they refuse
+  pub refuses : (r : Refusal) → ApplyingChecked shape z l p.direction p.s p.u p.index p.beside (is_none checked) (Err r) → Made (call_of p) z l (refused (refusal_number r)) l
+  refuses r found =
+      let ss = line_slots z l in
       outcome_refused z l (answer_to (call_of p) z l) ((call_of p).leaves ss) (refusal_number r)
-      (refused_early (last_tests p ss) (core_says ss) ((bad_line z l, 1) ∷ first_tests p ss) (refusal_number r) (rw e at looked))
+      (refused_early [] ((p.core (direction_of p.direction)).says ss) ((bad_line z l, 1) ∷ tests p (not p.good) ss) (refusal_number r) (rw (bad_is p.good P checked tested) at found))
 
-  -- what holds of each refusal, and of what the core says where the index is in its place, holds of the answer
-  pub of_made : (P : Said → Type 0) → ((n : ℕ) → P (refused n)) → ((p.index < length ss) × Near (length ss) p.index p.beside → P (core_says ss))
-      → {given : Said} {l' : List ℕ} → Made (call_of p) z l given l' → P given
-  of_made P refuses follows o =
-      let first : List (Bool × ℕ) = (bad_line z l, 1) ∷ first_tests p ss in
-      rw o.answer
-      (of_unless P refuses (first ++ last_tests p ss) (core_says ss) (λ e.
-      follows (in_place (length ss) p.index p.beside (clear_first _ 5 ((not p.good, 6) ∷ []) (clear_parts first (last_tests p ss) e).1).0)))
+  -- they refuse nothing
+  module _ (x : C) (found : ApplyingChecked shape z l p.direction p.s p.u p.index p.beside (is_none checked) (Ok x)) where
+    clear_tests : (bad_line z l ≡ false) × (unless (tests p (not p.good) (line_slots z l)) done ≡ done)
+    clear_tests = clear_first (bad_line z l) 1 (tests p (not p.good) (line_slots z l)) (rw (bad_is p.good P checked tested) at found).0
 
-  pub cleared : {x : Checked} (w : Shape) → x ≡ Slots w → Looked p z l x → Cleared p z l w
-  cleared w e looked = clear z l (unless (first_tests p ss) done) w e looked
+    -- all that the core asks
+    pub placed : Inside (shape x) l p.index × Near (shape x).count p.index p.beside
+    placed =
+        let ss = line_slots z l in
+        let long : length ss ≡ (shape x).count = length_slots (shape_of z l) l ∙ sym (ap (λ (v : Shape). v.count) found.1) in
+        let last : List (Bool × ℕ) = (bad_place (length ss) p.index p.beside, 5) ∷ (not p.good, 6) ∷ [] in
+        let place = clear_first (bad_place (length ss) p.index p.beside) 5 ((not p.good, 6) ∷ []) (clear_parts (slot_tests ss p.direction (bad_scale p.s p.u)) last clear_tests.1).1 in
+        let near = in_place (shape x).count p.index p.beside (ap (λ (n : ℕ). bad_place n p.index p.beside) (sym long) ∙ place.0) in
+        (record { fits = rw found.1 (shapely z l clear_tests.0); below = near.0 }, near.1)
 
-  module _ {w : Shape} (ok : Cleared p z l w) where
-    -- the index and the subtable decide
-    says_is : (b g : Bool) → bad_place w.count p.index p.beside ≡ b → not p.good ≡ g → (call_of p).says (slots w l) ≡ unless ((b, 5) ∷ (g, 6) ∷ []) (core_says (slots w l))
-    says_is b g b-is g-is =
-        let long : length ss ≡ w.count = length_slots (shape_of z l) l ∙ sym (ap (λ (v : Shape). v.count) ok.shape_is) in
-        let index = ap (λ (k : ℕ). bad_place k p.index p.beside) long ∙ b-is in
-        rw ok.shape_is
-        (go_on (last_tests p ss) (core_says ss) (first_tests p ss) ok.none ∙ ap (λ (c : Bool). unless ((c, 5) ∷ (not p.good, 6) ∷ []) (core_says ss)) index
-        ∙ ap (λ (c : Bool). unless ((b, 5) ∷ (c, 6) ∷ []) (core_says ss)) g-is)
-
-    -- by code's test b of the index
-    module _ {b : Bool} (b-is : b ≡ bad_place w.count p.index p.beside) where
-      pub refused_index : b ≡ true → Made (call_of p) z l (refused 5) l
-      refused_index bad = made_refused (call_of p) z l ok.good 5 ok.shape_is (says_is true (not p.good) (sym b-is ∙ bad) refl)
-
-      -- it is good
-      module _ (placed : b ≡ false) where
-        pub passed : Passed p l w
-        passed =
-            let place = in_place w.count p.index p.beside (sym b-is ∙ placed) in
-            record {
-              inside = record { fits = ok.fits; below = place.0 };
-              near = place.1;
-              scale = in_scale p.s p.u (number_good ss p.direction (bad_scale p.s p.u) ok.none);
-            }
-
-        pub refused_subtable : {g : Bool} → g ≡ p.good → g ≡ false → Made (call_of p) z l (refused 6) l
-        refused_subtable is bad = made_refused (call_of p) z l ok.good 6 ok.shape_is (says_is false true (sym b-is ∙ placed) (ap not (sym is ∙ bad)))
-
-        -- the core was called with the direction d, said `given` and left the bytes l'
-        pub by_core : {g : Bool} {d : Direction} (l' : List ℕ) (given : Said) → g ≡ p.good → g ≡ true → d ≡ direction_of p.direction → AllBytes l → AllBytes l'
-            → length l' ≡ length l → MadeOn (p.core d) (slots w l) given (slots w l') → Made (call_of p) z l given l'
-        by_core l' given is good d-is byte byte' k made =
-            made_by (call_of p) z l ok.good l' given ok.shape_is byte byte' k (rw (says_is false false (sym b-is ∙ placed) (ap not (sym is ∙ good))) (rw d-is at made))
+    -- what the core said and left is what the call says and leaves
+    pub made : (l' : List ℕ) (given : Said) → AllBytes l → AllBytes l' → length l' ≡ length l → MadeOn (p.core (direction_of p.direction)) (slots (shape x) l) given (slots (shape x) l')
+        → Made (call_of p) z l given l'
+    made l' given byte byte' k by_core =
+        let core = p.core (direction_of p.direction) in
+        let says : (call_of p).says (slots (shape x) l) ≡ core.says (slots (shape x) l) = rw found.1 (go_on [] (core.says (line_slots z l)) (tests p (not p.good) (line_slots z l)) clear_tests.1) in
+        made_by (call_of p) z l clear_tests.0 l' given found.1 byte byte' k (rw says by_core)

@@ -1,31 +1,29 @@
 -- The ways through a move: refused by the checks of its line or by the target, or done. Assumes nothing.
-use mathlib.Core.Path.{◌≡◌, sym, ap, ◌∙◌}
+use Rattle.std.specs.Prelude.{Ok}
+use mathlib.Core.Path.{◌≡◌, refl, sym, ap, ◌∙◌}
 use mathlib.Core.Bool.{Bool, true, false, not, ◌||◌}
 use mathlib.Core.List.{List, [], ◌∷◌}
 use Prim.Native.Nat.{ℕ, ◌*◌, ◌≤◌}
 use native.Mathlib.Nat.{mul-div_cancel, mul-le-mul_left}
 use native.Mathlib.Omega.{arith}
-use borrow.Author.Tests.{eq-eqb, ne_eqb}
+use borrow.Author.Tests.{eq-eqb}
 use lib.Dec.{eqb}
 use lib.ListN.{length}
 use Rattle.ints.specs.BigEndian.{AllBytes}
 use Rattle.slots.specs.Checks.{bad_line, most_slots}
 use Rattle.slots.specs.Line.{bytes, count, line_slots, shape_of, shape_with, slots}
 use Rattle.slots.specs.code.Shape.{Fits}
-use Rattle.slots.specs.Slot.{clustered_size, known, Slot, slot_size}
+use Rattle.slots.specs.Slot.{known, Slot, slot_size}
 use Rattle.slots.specs.declared.shape.Shape.{Shape}
 use Rattle.slots.proofs.LineLaws.{from_slots, line_short}
 use Rattle.slots.proofs.SlotLaws.{size_wide}
 use Rattle.answers.specs.Outcome.{Outcome}
-use Rattle.answers.specs.Said.{done, refusal_number, refused, Said, unless}
-use Rattle.answers.specs.declared.Refusal.{Refusal}
-use Rattle.answers.proofs.OutcomeLaws.{outcome_done, outcome_refused}
-use Rattle.answers.proofs.TestLaws.{go_on, refused_early}
+use Rattle.answers.specs.Said.{done, Said, unless}
+use Rattle.answers.proofs.OutcomeLaws.{outcome_done}
+use Rattle.answers.proofs.TestLaws.{go_on}
 use Rattle.checks.specs.Ranges.{bad_slots}
 use Rattle.checks.specs.code.Checked.{LineChecked}
-use Rattle.checks.specs.declared.arguments.Checked.{Checked}
-use Rattle.checks.specs.declared.arguments.Checked.TheVariants.{Refused}
-use Rattle.checks.proofs.CheckLaws.{Clear}
+use Rattle.checks.proofs.CheckLaws.{Clear, clear}
 use Rattle.gpos.specs.Moving.{move_said}
 
 -- a target of n slots of y bytes
@@ -46,19 +44,17 @@ module _ (y : ℕ) (size : known y ≡ true) (n : ℕ) (t : List ℕ) (is : leng
 pub few_slots : (l : List ℕ) (n : ℕ) → Fits (shape_with slot_size n) l → bad_line slot_size l ≡ false → n ≤ most_slots
 few_slots l n f good = omega (arith, f.whole, line_short slot_size l good)
 
-pub few_clustered : (l : List ℕ) (n : ℕ) → Fits (shape_with clustered_size n) l → bad_line clustered_size l ≡ false → n ≤ most_slots
-few_clustered l n f good = omega (arith, f.whole, line_short clustered_size l good)
-
 -- what is said of the slots of a line of such slots, refusal 4 alone
 abbrev pub line_said : ℕ → List ℕ → Said
 line_said z l = unless ((bad_slots (line_slots z l), 4) ∷ []) done
 
+-- what the checks of such a line found, where they refuse nothing
+pub line_clear : (z : ℕ) (l : List ℕ) (w : Shape) → LineChecked z l (Ok w) → Clear z l (line_said z l) w
+line_clear z l w found = clear (λ (v : Shape). v) z l (line_said z l) w refl found
+
 -- code tells of the count alone
 pub count_shape : {z : ℕ} {l : List ℕ} {w : Shape} → Clear z l (line_said z l) w → shape_with z w.count ≡ w
 count_shape {z} ok = rw ok.shape_is
-
-pub count_fits : {z : ℕ} {l : List ℕ} {w : Shape} → Clear z l (line_said z l) w → Fits (shape_with z w.count) l
-count_fits ok = rw (count_shape ok) ok.fits
 
 -- the move of l, of slots of z bytes, to slots `new` of y bytes in t
 module _ (z y : ℕ) (lost : Bool) (l t : List ℕ) (new : List Slot) where
@@ -67,9 +63,6 @@ module _ (z y : ℕ) (lost : Bool) (l t : List ℕ) (new : List Slot) where
 
   abbrev target_then : List (Bool × ℕ)
   target_then = (not (eqb (length t) (count z l * y)) || lost, 10) ∷ []
-
-  pub line_refused : {x : Checked} (r : Refusal) → x ≡ Refused r → LineChecked z l x → Outcome y t (move_said z y lost l t) new (refused (refusal_number r)) t
-  line_refused r e found = outcome_refused y t (move_said z y lost l t) new (refusal_number r) (refused_early target_then done line_first (refusal_number r) (rw e at found))
 
   module _ {w : Shape} (ok : Clear z l (line_said z l) w) where
     says_is : move_said z y lost l t ≡ unless target_then done
@@ -80,14 +73,6 @@ module _ (z y : ℕ) (lost : Bool) (l t : List ℕ) (new : List Slot) where
 
     length_test : length t ≡ w.count * y → eqb (length t) (count z l * y) ≡ true
     length_test e = eq-eqb (length t) (count z l * y) (e ∙ same_count)
-
-    pub wrong_length : (length t ≡ w.count * y → ⊥) → Outcome y t (move_said z y lost l t) new (refused 10) t
-    wrong_length ne =
-        let differs = ne_eqb (length t) (count z l * y) (λ e. ne (e ∙ sym same_count)) in
-        outcome_refused y t (move_said z y lost l t) new 10 (says_is ∙ rw differs)
-
-    pub would_lose : length t ≡ w.count * y → lost ≡ true → Outcome y t (move_said z y lost l t) new (refused 10) t
-    would_lose e lose = outcome_refused y t (move_said z y lost l t) new 10 (says_is ∙ rw (length_test e, lose))
 
     pub moved : length t ≡ w.count * y → lost ≡ false → (t' : List ℕ) → t' ≡ bytes y new → Outcome y t (move_said z y lost l t) new done t'
     moved e keep t' b = outcome_done y t (move_said z y lost l t) new t' (says_is ∙ rw (length_test e, keep)) b

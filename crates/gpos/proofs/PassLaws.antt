@@ -1,5 +1,5 @@
 -- Places of a run at which the glyph isn't covered are passed over: the definition's calls there decline without hazard. Assumes nothing.
-use Rattle.std.specs.Prelude.{if◌then◌else◌}
+use Rattle.std.specs.Prelude.{None, Option, Some, if◌then◌else◌}
 use mathlib.Core.Path.{◌≡◌, refl, ap, ◌∙◌}
 use mathlib.Core.Bool.{Bool, true, false}
 use mathlib.Core.List.{List, [], ◌∷◌}
@@ -14,17 +14,15 @@ use Rattle.slots.specs.Checks.{bad_line}
 use Rattle.slots.specs.Line.{count, line_slots, shape_of}
 use Rattle.slots.specs.Slot.{Slot}
 use Rattle.slots.proofs.LineLaws.{length_slots}
-use Rattle.tables.specs.declared.coverage.Covered.TheVariants.{Not}
 use Rattle.answers.specs.Outcome.{line_after}
 use Rattle.answers.specs.Said.{declined, hazards_of, Said, unless}
-use Rattle.checks.specs.Arguments.{bad_scale}
+use Rattle.ints.specs.Scale.{bad_scale}
 use Rattle.checks.specs.Ranges.{bad_slots}
 use Rattle.lookup.specs.Kinds.{good_for}
 use Rattle.lookup.specs.Neighbours.{neighbour_for}
 use Rattle.lookup.specs.Subtables.{every, subtable, subtables, total}
-use Rattle.lookup.specs.code.Covered.{cover_at, next_place}
+use Rattle.lookup.specs.code.Covered.{cover_at, next_place, place as place_at}
 use Rattle.lookup.specs.declared.covered.Place.{Place}
-use Rattle.lookup.specs.declared.covered.Place.TheVariants.{At, Nowhere}
 use Rattle.lookup.specs.declared.kinds.Kind.{Kind}
 use Rattle.lookup.specs.declared.state.Settings.{Settings}
 use Rattle.lookup.proofs.CoveredLaws.{by_steps, declines}
@@ -75,9 +73,9 @@ module _ (g : Settings) (kind : Kind) (b lens l : List ℕ) where
     pub fewer : rest + (i' * c + k') ≡ calls + (i * c + k)
     pub same : run_in kind g ts calls l (onward n c i k a) ≡ run_in kind g ts rest l (goes_on (place i' k' a))
 
-  abbrev pub Passing : (calls i k : ℕ) (a : Bool) → Place → Type 0
-  Passing calls i k a (At i' k' start m) = Passed calls i k a i' k'
-  Passing calls i k a Nowhere = run_in kind g ts calls l (onward n c i k a) ≡ standing l (at_end a)
+  abbrev pub Passing : (calls i k : ℕ) (a : Bool) → Option Place → Type 0
+  Passing calls i k a (Some p) = Passed calls i k a p.index p.subtable
+  Passing calls i k a None = run_in kind g ts calls l (onward n c i k a) ≡ standing l (at_end a)
 
   module _ (one : 0 < c) (as_many : length ts ≡ c) (direction-good : ltb 3 g.direction ≡ false) (scale-good : bad_scale g.s g.u ≡ false)
       (line_good : bad_line g.size l ≡ false) (slots_good : bad_slots ss ≡ false) (all_good : every (good_for kind) ts ≡ true) where
@@ -85,14 +83,14 @@ module _ (g : Settings) (kind : Kind) (b lens l : List ℕ) where
     many = length_slots (shape_of g.size l) l
 
     -- what a call says there
-    says_there : (i k : ℕ) (a : Bool) → i < length ss → k < c → cover_at (subtable lens b k) ss i ≡ Not → said_on kind g ts l (place i k a) ≡ declined []
+    says_there : (i k : ℕ) (a : Bool) → i < length ss → k < c → cover_at (subtable lens b k) ss i ≡ None → said_on kind g ts l (place i k a) ≡ declined []
     says_there i k a h e is =
         ap (λ (bad : Bool). unless ((bad, 1) ∷ []) ((call_at kind g (subtable lens b k) ss i).says ss)) line_good
         ∙ core_says g ss direction-good scale-good slots_good (subtable lens b k) i h kind (one_good (good_for kind) lens b k e all_good)
         ∙ declines (subtable lens b k) ss i is kind (direction_of g.direction) g.s g.u g.flag (neighbour_for kind ss i)
 
     -- so the run goes on as if it had not been made
-    passes_one : (i k q : ℕ) (a : Bool) → i < length ss → k < c → cover_at (subtable lens b k) ss i ≡ Not
+    passes_one : (i k q : ℕ) (a : Bool) → i < length ss → k < c → cover_at (subtable lens b k) ss i ≡ None
         → run_in kind g ts (suc q) l (onward n c i k a) ≡ run_in kind g ts q l (onward n c i (k + 1) a)
     passes_one i k q a h e is =
         ap (run_in kind g ts (suc q) l) here ∙ run_on kind g ts q l (place i k a)
@@ -108,10 +106,10 @@ module _ (g : Settings) (kind : Kind) (b lens l : List ℕ) where
         there : after n c (place i k a) (declined []) ≡ onward n c i (k + 1) a
         there = rw (lt-ltb i n in_line)
 
-    abbrev AllPassing : (i k : ℕ) → Place → Type 0
+    abbrev AllPassing : (i k : ℕ) → Option Place → Type 0
     AllPassing i k p = (calls : ℕ) (a : Bool) → n * c ≤ calls + (i * c + k) → Passing calls i k a p
 
-    there : (i k m : ℕ) → i < length ss → k < c → (start : ℕ) → AllPassing i k (At i k start m)
+    there : (i k m : ℕ) → i < length ss → k < c → (start : ℕ) → AllPassing i k (Some (place_at i k start m))
     there i k m h e start calls a enough =
         record { rest = calls; not_more = omega arith; fewer = refl; same = ap (run_in kind g ts calls l) (rw (lt-ltb i n (omega (arith, many)), lt-ltb k c e)) }
 
@@ -119,23 +117,23 @@ module _ (g : Settings) (kind : Kind) (b lens l : List ℕ) where
     some_left : (i k calls : ℕ) → i < length ss → k < c → n * c ≤ calls + (i * c + k) → 0 < calls
     some_left i k calls h e enough = let whole : i + 1 ≤ n = omega (arith, many) in omega (arith, enough, mul-le-mul_right c whole, suc-mul i c)
 
-    passed_one : (i k : ℕ) (p : Place) → i < length ss → k < c → cover_at (subtable lens b k) ss i ≡ Not → AllPassing i (k + 1) p → AllPassing i k p
+    passed_one : (i k : ℕ) (p : Option Place) → i < length ss → k < c → cover_at (subtable lens b k) ss i ≡ None → AllPassing i (k + 1) p → AllPassing i k p
     passed_one i k p h e is rest zero a enough = absurd (omega (arith, some_left i k zero h e enough))
-    passed_one i k (At i' k' start m) h e is rest (suc q) a enough =
+    passed_one i k (Some p) h e is rest (suc q) a enough =
         let r = rest q a (omega (arith, enough)) in
         record { rest = r.rest; not_more = omega (arith, r.not_more); fewer = omega (arith, r.fewer); same = passes_one i k q a h e is ∙ r.same }
-    passed_one i k Nowhere h e is rest (suc q) a enough = passes_one i k q a h e is ∙ rest q a (omega (arith, enough))
+    passed_one i k None h e is rest (suc q) a enough = passes_one i k q a h e is ∙ rest q a (omega (arith, enough))
 
     slot_over : (i k : ℕ) (a : Bool) → i < length ss → k ≡ c → onward n c i k a ≡ onward n c (i + 1) 0 a
     slot_over i k a h e = rw (lt-ltb i n (omega (arith, many)), le-ltb k c (omega (arith, e)), lt-ltb 0 c one)
 
-    slot_passed : (i k : ℕ) (p : Place) → i < length ss → k ≡ c → AllPassing (i + 1) 0 p → AllPassing i k p
-    slot_passed i k (At i' k' start m) h e rest calls a enough =
+    slot_passed : (i k : ℕ) (p : Option Place) → i < length ss → k ≡ c → AllPassing (i + 1) 0 p → AllPassing i k p
+    slot_passed i k (Some p) h e rest calls a enough =
         let r = rest calls a (omega (arith, enough, e, suc-mul i c)) in
         record { rest = r.rest; not_more = omega (arith, r.not_more); fewer = omega (arith, r.fewer, e, suc-mul i c); same = ap (run_in kind g ts calls l) (slot_over i k a h e) ∙ r.same }
-    slot_passed i k Nowhere h e rest calls a enough = ap (run_in kind g ts calls l) (slot_over i k a h e) ∙ rest calls a (omega (arith, enough, e, suc-mul i c))
+    slot_passed i k None h e rest calls a enough = ap (run_in kind g ts calls l) (slot_over i k a h e) ∙ rest calls a (omega (arith, enough, e, suc-mul i c))
 
-    line_passed : (i k : ℕ) → length ss ≤ i → AllPassing i k Nowhere
+    line_passed : (i k : ℕ) → length ss ≤ i → AllPassing i k None
     line_passed i k h calls a enough = ap (run_in kind g ts calls l) (rw (le-ltb i n (omega (arith, many)))) ∙ run_ended kind g ts calls l a
 
     pub passes : (i k start : ℕ) → k ≤ c → start ≡ total (take k lens) → AllPassing i k (next_place ss b lens i k start)

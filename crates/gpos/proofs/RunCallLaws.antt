@@ -1,8 +1,8 @@
 -- A single call of a run, whose checks were made before the run began, says and leaves what its core does. Assumes nothing.
+use Rattle.std.specs.Prelude.{None, Option, Some}
 use mathlib.Core.Path.{◌≡◌, refl, ap}
 use mathlib.Core.Bool.{Bool, true, false, not, ◌||◌}
 use mathlib.Core.List.{List}
-use mathlib.Core.Option.{Option, some, none}
 use Prim.Native.Nat.{ℕ, ◌+◌, ◌-◌, ◌<◌}
 use native.Mathlib.Omega.{arith}
 use borrow.Author.Tests.{le-ltb, lt-leb}
@@ -25,7 +25,8 @@ use Rattle.targets.specs.declared.mark_pos.Target.TheVariants.{Base, Ligature}
 use Rattle.targets.specs.declared.place.Way.{Way}
 use Rattle.targets.specs.declared.place.Way.TheVariants.{Search, Earlier}
 use Rattle.marks.specs.Attachment.{mark_attachment}
-use Rattle.checks.specs.Arguments.{applying, bad_scale}
+use Rattle.ints.specs.Scale.{bad_scale}
+use Rattle.checks.specs.Arguments.{applying}
 use Rattle.checks.specs.Neighbours.{bad_after, bad_before, bad_place, bad_previous, bad_second}
 use Rattle.checks.specs.Ranges.{bad_slots}
 use Rattle.lookup.specs.Kinds.{good_for}
@@ -46,15 +47,15 @@ second_good ss i h = go (lowest (seen ss) (i + 1) (length ss - (i + 1))) (second
     n = length ss
 
     go : (o : Option ℕ) → After (length ss) i (or_missing (length ss) o) → leb (length ss) i || bad_after (length ss) i (or_missing (length ss) o) ≡ false
-    go (some j) a = rw (lt-leb n i h, lt-leb j i a.0, lt-leb n j a.1)
-    go none a = rw (lt-leb n i h, le-ltb n n (omega arith))
+    go (Some j) a = rw (lt-leb n i h, lt-leb j i a.0, lt-leb n j a.1)
+    go None a = rw (lt-leb n i h, le-ltb n n (omega arith))
 
 previous_good : (ss : List Slot) (i : ℕ) → i < length ss → bad_previous (length ss) i (previous ss i) ≡ false
 previous_good ss i h = go (nearest (seen ss) i) (previous_before ss i)
   where
     go : (o : Option ℕ) → Before i (or_missing 0 o) → leb (length ss) i || bad_before (length ss) i (or_missing 0 o) ≡ false
-    go (some j) a = rw (lt-leb (length ss) i h, lt-leb i j a)
-    go none a = rw (lt-leb (length ss) i h, le-ltb (length ss) 0 (omega arith))
+    go (Some j) a = rw (lt-leb (length ss) i h, lt-leb i j a)
+    go None a = rw (lt-leb (length ss) i h, le-ltb (length ss) 0 (omega arith))
 
 -- ---- a call none of whose tests holds
 module _ (g : Settings) (ss : List Slot) (direction-good : ltb 3 g.direction ≡ false) (scale-good : bad_scale g.s g.u ≡ false) (slots_good : bad_slots ss ≡ false) where

@@ -1,10 +1,11 @@
 -- Cursive attachment: what the call says, and the line afterwards. Assumes nothing.
-use Rattle.std.specs.Prelude.{not, List, ℕ, length}
+use Rattle.std.specs.Prelude.{Result, not, List, ℕ, length}
 use Rattle.cursive.specs.Attachment.{cursive_attachment}
 use Rattle.cursive.specs.CursivePos.{cursive_good}
 use Rattle.answers.specs.Outcome.{Call, Made}
 use Rattle.answers.specs.Said.{said}
 use Rattle.answers.specs.declared.Answer.{Answer}
+use Rattle.answers.specs.declared.Refusal.{Refusal}
 use Rattle.answers.specs.declared.Neighbour.{Neighbour}
 use Rattle.checks.specs.Neighbours.{bad_previous}
 use Rattle.checks.specs.Arguments.{applying}
@@ -16,7 +17,7 @@ cursive t direction s u i previous flag =
     (λ d. cursive_attachment t d s u i previous flag)
 
 -- on the line l, of slots of z bytes, it answered r and left l'
-abbrev pub CursiveCall : (z : ℕ) (l t : List ℕ) (direction s u i : ℕ) (previous : Neighbour) (flag : ℕ) (r : Answer)
+abbrev pub CursiveCall : (z : ℕ) (l t : List ℕ) (direction s u i : ℕ) (previous : Neighbour) (flag : ℕ) (r : Result Answer Refusal)
     (l' : List ℕ)
     → Type 0
 CursiveCall z l t direction s u i previous flag r l' = Made (cursive t direction s u i previous flag) z l (said r) l'

@@ -6,4 +6,3 @@ pub mod CursivePos  -- cursive attachment
 pub mod MarkPos  -- mark attachment
 pub mod Moving  -- moving to slots with a cluster, and back
 pub mod Running  -- running a lookup
-pub mod code  -- of code: what it answers

@@ -1,5 +1,5 @@
 -- Mark attachment: what the calls say, and the line afterwards. Assumes nothing.
-use Rattle.std.specs.Prelude.{not, List, ℕ, length}
+use Rattle.std.specs.Prelude.{Result, not, List, ℕ, length}
 use Rattle.targets.specs.MarkPos.{marks_good}
 use Rattle.targets.specs.declared.place.Way.{Way}
 use Rattle.targets.specs.declared.place.Way.TheVariants.{Search, Earlier}
@@ -7,6 +7,7 @@ use Rattle.marks.specs.Attachment.{mark_attachment}
 use Rattle.answers.specs.Outcome.{Call, Made}
 use Rattle.answers.specs.Said.{said}
 use Rattle.answers.specs.declared.Answer.{Answer}
+use Rattle.answers.specs.declared.Refusal.{Refusal}
 use Rattle.checks.specs.Arguments.{applying}
 use Rattle.checks.specs.Neighbours.{bad_place}
 use Rattle.checks.specs.declared.neighbours.Beside.{Beside}
@@ -26,5 +27,5 @@ mark way t direction s u i =
     (λ d. mark_attachment way t d s u i)
 
 -- on the line l, of slots of z bytes, it answered r and left l'
-abbrev pub MarkCall : (way : Way) (z : ℕ) (l t : List ℕ) (direction s u i : ℕ) (r : Answer) (l' : List ℕ) → Type 0
+abbrev pub MarkCall : (way : Way) (z : ℕ) (l t : List ℕ) (direction s u i : ℕ) (r : Result Answer Refusal) (l' : List ℕ) → Type 0
 MarkCall way z l t direction s u i r l' = Made (mark way t direction s u i) z l (said r) l'

@@ -1,12 +1,13 @@
 -- Running a lookup: the single calls, made one after another. Assumes nothing.
+use Rattle.std.specs.Prelude.{None, Option, Result, Some}
 use Rattle.std.specs.Prelude.{Bool, false, ◌||◌, List, [], ◌++◌, map, ◌≡◌, ℕ, zero, suc, ◌+◌, ◌*◌, ltb, drop, get_or, length, if◌then◌else◌}
-use Rattle.std.proofs.Math.Option.{Option, some, none}
 use Rattle.slots.specs.Line.{count, line_slots}
 use Rattle.slots.specs.Slot.{Slot}
 use Rattle.answers.specs.Outcome.{answer_to, Call, line_after}
 use Rattle.answers.specs.Said.{applied, declined, done, hazards_of, not_run, ran, Range, refused, Said, said_run, SaidRun}
 use Rattle.answers.specs.Said.{stopped}
 use Rattle.answers.specs.declared.Ran.{Ran}
+use Rattle.answers.specs.declared.WiderRefusal.{WiderRefusal}
 use Rattle.targets.specs.declared.mark_pos.Target.TheVariants.{Base, Ligature}
 use Rattle.targets.specs.declared.place.Way.TheVariants.{Search, Earlier}
 use Rattle.records.specs.Records.{record_of}
@@ -106,8 +107,8 @@ module _ (kind : Kind) (g : Settings) (ts : List (List ℕ)) where
 
 -- of a lookup type that is none of the six there is no run
 abbrev pub run_for : Option Kind → Settings → List (List ℕ) → List ℕ → Run
-run_for (some kind) g ts l = run kind g ts l
-run_for none g ts l = standing l (at_end false)
+run_for (Some kind) g ts l = run kind g ts l
+run_for None g ts l = standing l (at_end false)
 
 -- ---- the contract
 -- what a run says at its end, after so many hazards; it is never left while it goes on
@@ -143,7 +144,7 @@ run_of g l b lengths = run_for (kind_of g.kind) g (subtables lengths b) l
 
 -- running the lookup over the line l, with the subtables of the buffer b by their lengths and a list lent for the
 -- records, answered r and left the line l' and the list list'
-pub record LookupCall (g : Settings) (l b lengths : List ℕ) (list : List HazardRecord) (r : Ran) (l' : List ℕ)
+pub record LookupCall (g : Settings) (l b lengths : List ℕ) (list : List HazardRecord) (r : Result Ran WiderRefusal) (l' : List ℕ)
     (list' : List HazardRecord) : Type 0 where
   pub answer : said_run r ≡ run_said (verdict g l b lengths (length list)) (run_of g l b lengths)
   pub line : l' ≡ run_line (verdict g l b lengths (length list)) (run_of g l b lengths) l

@@ -5,10 +5,9 @@ ghost use Rattle.targets.specs.declared.place.Way.TheVariants.{Search, Earlier};
 ghost use Rattle.gpos.specs.MarkPos.{beside_of, MarkCall};
 
 use answers::{Answer, Neighbour, Refusal};
-use checks::arguments::{Checked, check_call};
-use checks::neighbours::{Beside, is_bad_place};
-use slots::axis::direction_of;
-use targets::mark_pos::Target;
+use checks::arguments::check_applying;
+use checks::neighbours::Beside;
+use targets::mark_pos::{MarkPos, Target};
 use targets::place::Way;
 
 // One call for all three ways.
@@ -21,32 +20,22 @@ fn mark(
     s: u32,
     u: u32,
     index: usize,
-) -> Answer
+) -> Result<Answer, Refusal>
     ensures { MarkCall way size line.old subtable.now direction s u index result
         line.new }
 {
-    let checked = check_call(line, size, direction, s, u);
-    match checked {
-        Checked::Refused(r) => return Answer::Refused(r),
-        Checked::Slots(shape) => {
-            if is_bad_place(shape.count, index, beside_of(way)) {
-                return Answer::Refused(Refusal::Index);
-            }
-            if targets::mark_pos::is_good(subtable) {
-                return marks::attachment::apply(
-                    line,
-                    shape,
-                    subtable,
-                    way,
-                    direction_of(direction),
-                    s,
-                    u,
-                    index,
-                );
-            }
-            return Answer::Refused(Refusal::Subtable);
-        }
-    }
+    let checked = MarkPos::new(subtable);
+    let (shape, frame, subtable) = check_applying(
+        line,
+        size,
+        direction,
+        s,
+        u,
+        index,
+        beside_of(way),
+        checked,
+    )?;
+    marks::attachment::apply(line, shape, frame, subtable, way, index)
 }
 
 // What is beside the index: an earlier mark, if the caller names one.
@@ -69,7 +58,7 @@ pub fn mark_base(
     s: u32,
     u: u32,
     index: usize,
-) -> Answer
+) -> Result<Answer, Refusal>
     ensures { MarkCall (Search Base) size line.old subtable.now direction s u index result
         line.new }
 {
@@ -86,7 +75,7 @@ pub fn mark_base(
 }
 
 // Attaches the mark in slot `index` to a component of the nearest ligature before it, by a MarkLigPos subtable. The
-// caller clears the seen bit on marks. Refusals 1 to 7.
+// caller clears the seen bit on marks. Refusals 1 to 7. A call of its own, as C and other languages know it.
 pub fn mark_ligature(
     line: &mut [u8],
     size: usize,
@@ -95,7 +84,7 @@ pub fn mark_ligature(
     s: u32,
     u: u32,
     index: usize,
-) -> Answer
+) -> Result<Answer, Refusal>
     ensures { MarkCall (Search Ligature) size line.old subtable.now direction s u index result
         line.new }
 {
@@ -122,7 +111,7 @@ pub fn mark_mark(
     u: u32,
     index: usize,
     earlier: Neighbour,
-) -> Answer
+) -> Result<Answer, Refusal>
     ensures { MarkCall (Earlier earlier) size line.old subtable.now direction s u index result
         line.new }
 {

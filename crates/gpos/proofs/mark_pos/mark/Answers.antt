@@ -1,22 +1,25 @@
 -- The call's parts; all else is the applying calls' laws. Assumes nothing.
-use mathlib.Core.List.{List}
-use mathlib.Core.Path.{◌≡◌, sym, ap, ◌∙◌}
-use Prim.Native.Nat.{ℕ}
+use Rattle.std.proofs.Common.{rules}
+use Rattle.marks.specs.Attachment.{mark_attachment}
 use Rattle.targets.specs.MarkPos.{marks_good}
 use Rattle.targets.specs.code.Meant.{WayBefore}
 use Rattle.targets.specs.declared.place.Way.{Way}
 use Rattle.targets.specs.declared.place.Way.TheVariants.{Search, Earlier}
-use Rattle.marks.specs.Attachment.{mark_attachment}
-use Rattle.answers.specs.Said.{said}
-use Rattle.checks.specs.Neighbours.{bad_place}
-use Rattle.gpos.specs.MarkPos.{beside_of}
-use Rattle.gpos.proofs.ApplyingLaws.{by_core, Cleared, cleared, Parts, passed, refused_by, refused_index, refused_subtable}
 use Rattle.gpos.proofs.NeighbourLaws.{Near}
+use Rattle.gpos.specs.MarkPos.{beside_of}
+use mathlib.Core.Path.{◌≡◌}
+use mathlib.Core.List.{List}
+use Prim.Native.Nat.{ℕ}
+use Rattle.slots.specs.declared.frame.Frame.{Frame}
+use Rattle.slots.specs.declared.shape.Shape.{Shape}
+use Rattle.answers.specs.Said.{said}
+use Rattle.targets.specs.declared.mark_pos.MarkPos.{MarkPos}
+use Rattle.gpos.proofs.ApplyingLaws.{made, Parts, placed, refuses}
 use Rattle.gpos.proofs.mark_pos.mark.Goals as goal
 
 -- what the call is told, by name
-abbrev parts : Way → List ℕ → (direction s u index : ℕ) → Parts
-parts way t direction s u index =
+abbrev parts : List ℕ → (direction s u index : ℕ) (way : Way) → Parts
+parts t direction s u index way =
     record {
       direction = direction;
       s = s;
@@ -27,53 +30,34 @@ parts way t direction s u index =
       core = λ d. mark_attachment way t d s u index;
     }
 
+-- what the checks find, and what is known of a subtable that passed its own
+abbrev shape : Shape × Frame × MarkPos → Shape
+shape x = x.0
+
 -- an earlier mark that is named is before the index
 before : (n i : ℕ) (way : Way) → Near n i (beside_of way) → WayBefore i way
 before n i (Search target) near = tt
 before n i (Earlier earlier) near = near
 
-pub returns-in-Refused : goal.returns-in-Refused
-returns-in-Refused c =
-    let p = parts c.args.way c.args.subtable.now c.args.direction c.args.s c.args.u c.args.index in
-    refused_by p c.args.size c.args.line.now _ c.in-Refused.is c.check_call-checked.ensures
+abbrev Of : List ℕ → MarkPos → Type 0
+Of t x = x.bytes.now ≡ t
 
-pub returns-then-is_bad_place : goal.returns-then-is_bad_place
-returns-then-is_bad_place c =
-    let p = parts c.args.way c.args.subtable.now c.args.direction c.args.s c.args.u c.args.index in
-    let ok : Cleared p c.args.size c.args.line.now c.in-Slots.shape =
-    cleared p c.args.size c.args.line.now c.in-Slots.shape c.in-Slots.is c.check_call-checked.ensures in
-    let placed : let a = c.args in c.is_bad_place.result ≡ bad_place c.in-Slots.shape.count a.index (beside_of a.way) =
-    c.is_bad_place.ensures ∙ ap (bad_place c.in-Slots.shape.count c.args.index) c.beside_of.ensures in
-    refused_index p c.args.size c.args.line.now ok placed c.if-is_bad_place.true
+pub returns-in_err-shape : goal.returns-in_err-shape
+returns-in_err-shape c =
+    let a = c.args in
+    let e = refuses (parts a.subtable.now a.direction a.s a.u a.index a.way) a.size a.line.now shape (Of a.subtable.now) c.new-checked.result c.new-checked.ensures _ (rw c.beside_of.ensures at c.in_err-shape.ensures.shape) in
+    search rules
 
 pub apply-requires : goal.apply-requires
 apply-requires c =
-    let p = parts c.args.way c.args.subtable.now c.args.direction c.args.s c.args.u c.args.index in
-    let ok : Cleared p c.args.size c.args.line.now c.in-Slots.shape =
-    cleared p c.args.size c.args.line.now c.in-Slots.shape c.in-Slots.is c.check_call-checked.ensures in
-    let placed : let a = c.args in c.is_bad_place.result ≡ bad_place c.in-Slots.shape.count a.index (beside_of a.way) =
-    c.is_bad_place.ensures ∙ ap (bad_place c.in-Slots.shape.count c.args.index) c.beside_of.ensures in
-    let ok = passed p c.args.size c.args.line.now ok placed c.if-is_bad_place.false in
-    let good = sym c.is_good.ensures ∙ c.if-is_good.true in
-    (ok.inside, before c.in-Slots.shape.count c.args.index c.args.way ok.near, ok.scale, good)
+    let a = c.args in
+    let core = placed (parts a.subtable.now a.direction a.s a.u a.index a.way) a.size a.line.now shape (Of a.subtable.now) c.new-checked.result c.new-checked.ensures (c.in_ok-shape.shape, c.in_ok-shape.frame, c.in_ok-shape.subtable) (rw c.beside_of.ensures at c.in_ok-shape.ensures.shape) in
+    (core.0, before c.in_ok-shape.shape.count a.index a.way core.1)
 
-pub returns-then-is_good : goal.returns-then-is_good
-returns-then-is_good c =
-    let p = parts c.args.way c.args.subtable.now c.args.direction c.args.s c.args.u c.args.index in
-    let ok : Cleared p c.args.size c.args.line.now c.in-Slots.shape =
-    cleared p c.args.size c.args.line.now c.in-Slots.shape c.in-Slots.is c.check_call-checked.ensures in
-    let placed : let a = c.args in c.is_bad_place.result ≡ bad_place c.in-Slots.shape.count a.index (beside_of a.way) =
-    c.is_bad_place.ensures ∙ ap (bad_place c.in-Slots.shape.count c.args.index) c.beside_of.ensures in
-    let core = c.apply in
-    by_core p c.args.size c.args.line.now ok placed c.if-is_bad_place.false
-    core.new.line (said core.result) c.is_good.ensures c.if-is_good.true
-    c.direction_of.ensures (λ n. (c.slice_known-1.given n).fits) (λ n. (c.slice_known-then-is_good-1.given n).fits) core.auto.line core.ensures
-
-pub returns-in-Slots : goal.returns-in-Slots
-returns-in-Slots c =
-    let p = parts c.args.way c.args.subtable.now c.args.direction c.args.s c.args.u c.args.index in
-    let ok : Cleared p c.args.size c.args.line.now c.in-Slots.shape =
-    cleared p c.args.size c.args.line.now c.in-Slots.shape c.in-Slots.is c.check_call-checked.ensures in
-    let placed : let a = c.args in c.is_bad_place.result ≡ bad_place c.in-Slots.shape.count a.index (beside_of a.way) =
-    c.is_bad_place.ensures ∙ ap (bad_place c.in-Slots.shape.count c.args.index) c.beside_of.ensures in
-    refused_subtable p c.args.size c.args.line.now ok placed c.if-is_bad_place.false c.is_good.ensures c.if-is_good.false
+pub returns : goal.returns
+returns c =
+    let a = c.args in
+    let f = c.in_ok-shape.ensures.frame in
+    let checked = rw f.3 at c.new-checked.ensures in
+    made (parts a.subtable.now a.direction a.s a.u a.index a.way) a.size a.line.now shape (Of a.subtable.now) c.new-checked.result c.new-checked.ensures (c.in_ok-shape.shape, c.in_ok-shape.frame, c.in_ok-shape.subtable) (rw c.beside_of.ensures at c.in_ok-shape.ensures.shape)
+    c.apply.new.line (said c.apply.result) (λ n. (c.slice_known-1.given n).fits) (λ n. (c.type_inv.line n).fits) c.apply.auto.line (rw (f.0, f.1, f.2, checked.1) at c.apply.ensures)

@@ -1,1 +1,0 @@
-pub mod Ending  -- what a run answers at its end
