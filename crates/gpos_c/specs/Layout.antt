@@ -1,18 +1,17 @@
 -- The numbers that C sees for each case of an answer. Assumes nothing.
-use Rattle.std.specs.Prelude.{◌≡◌, Bool, true, false, not, [], ◌∷◌, ℕ, eqb, if◌then◌else◌}
+use Rattle.std.specs.Prelude.{◌≡◌, Bool, true, false, not, [], ◌∷◌, ℕ, eqb, Result, Ok, Err, if◌then◌else◌}
 use Rattle.answers.specs.declared.Neighbour.{Neighbour}
 use Rattle.answers.specs.declared.Neighbour.TheVariants.{Named, Missing}
-use Rattle.answers.specs.Said.{range, refusal_number}
-use Rattle.answers.specs.declared.Hazards.{Hazards}
-use Rattle.answers.specs.declared.Hazards.TheVariants.{None, One, Two}
+use Rattle.answers.specs.Said.{range, refusal_number, wider_number}
+use Rattle.answers.specs.declared.Hazard.{Hazard}
+use Rattle.answers.specs.declared.UpToTwo.{UpToTwo}
+use Rattle.answers.specs.declared.UpToTwo.TheVariants.{None, One, Two}
 use Rattle.answers.specs.declared.Answer.{Answer}
-use Rattle.answers.specs.declared.Answer.TheVariants.{Applied, Declined, Refused}
-use Rattle.answers.specs.declared.Moved.{Moved}
-use Rattle.answers.specs.declared.Moved.TheVariants.{Done as MovedNow, Refused as NotMoved, Unfit}
-use Rattle.answers.specs.declared.Done.{Done}
-use Rattle.answers.specs.declared.Done.TheVariants.{Done as DoneNow, Refused as NotDone}
+use Rattle.answers.specs.declared.Answer.TheVariants.{Applied, Declined}
 use Rattle.answers.specs.declared.Ran.{Ran}
-use Rattle.answers.specs.declared.Ran.TheVariants.{Done as RanToEnd, Endless as RanInto7, Refused as NotRun, Unfit as UnfitRun}
+use Rattle.answers.specs.declared.Ran.TheVariants.{Done as RanToEnd, Endless as RanInto7}
+use Rattle.answers.specs.declared.Refusal.{Refusal}
+use Rattle.answers.specs.declared.WiderRefusal.{WiderRefusal}
 use Rattle.records.specs.Records.{record_of}
 use Rattle.records.specs.declared.HazardRecord.{HazardRecord}
 use Rattle.lookup.specs.declared.state.Settings.{Settings}
@@ -25,22 +24,21 @@ abbrev pub set : ℕ → Bool
 set n = not (eqb n 0)
 
 -- starting and finishing: 0 where done, else the number of the refusal
-abbrev pub done_number : Done → ℕ
-done_number DoneNow = 0
-done_number (NotDone r) = refusal_number r
+abbrev pub done_number : Result (Unit {0}) Refusal → ℕ
+done_number (Ok _) = 0
+done_number (Err r) = refusal_number r
 
 -- the moves: the same, and refusal 10
-abbrev pub moved_number : Moved → ℕ
-moved_number MovedNow = 0
-moved_number (NotMoved r) = refusal_number r
-moved_number Unfit = 10
+abbrev pub moved_number : Result (Unit {0}) WiderRefusal → ℕ
+moved_number (Ok _) = 0
+moved_number (Err w) = wider_number 10 w
 
 -- zeros where there is no hazard
 abbrev pub no_hazard : HazardRecord
 no_hazard = record { kind = 0; start = 0; end = 0 }
 
 -- hazards keep their order
-abbrev pub list_of : Hazards → List
+abbrev pub list_of : UpToTwo Hazard → List
 list_of None = record { count = 0; hazard = no_hazard ∷ no_hazard ∷ [] }
 list_of (One h) = record { count = 1; hazard = record_of (range h) ∷ no_hazard ∷ [] }
 list_of (Two h g) = record { count = 2; hazard = record_of (range h) ∷ record_of (range g) ∷ [] }
@@ -51,15 +49,15 @@ flag true = 1
 flag false = 0
 
 -- an answer by its status, the number of its refusal, whether it attached, the next index and its hazards
-abbrev pub laid : ℕ → ℕ → ℕ → ℕ → Hazards → CAnswer
+abbrev pub laid : ℕ → ℕ → ℕ → ℕ → UpToTwo Hazard → CAnswer
 laid s r a n hs =
     record { status = s; refusal = r; attached = a; count = (list_of hs).count; next = n; hazard = (list_of hs).hazard }
 
 -- an applying call: status 1 applied, 2 declined, 3 refused; what a case doesn't have is 0
-abbrev pub to_c : Answer → CAnswer
-to_c (Applied n hs a) = laid 1 0 (flag a) n hs
-to_c (Declined hs) = laid 2 0 0 0 hs
-to_c (Refused r) = laid 3 (refusal_number r) 0 0 None
+abbrev pub to_c : Result Answer Refusal → CAnswer
+to_c (Ok (Applied n hs a)) = laid 1 0 (flag a) n hs
+to_c (Ok (Declined hs)) = laid 2 0 0 0 hs
+to_c (Err r) = laid 3 (refusal_number r) 0 0 None
 
 -- a run that is refused: the number of the refusal
 abbrev pub not_run : ℕ → CRan
@@ -67,11 +65,10 @@ not_run n = record { refusal = n; attached = 0; index = 0; count = 0 }
 
 -- the run of a lookup: refusal 0 where it came to the line's end; 7 where it stopped, with the index; what a case
 -- doesn't have is 0
-abbrev pub ran_to_c : Ran → CRan
-ran_to_c (RanToEnd n a) = record { refusal = 0; attached = flag a; index = 0; count = n }
-ran_to_c (RanInto7 i n) = record { refusal = 7; attached = 0; index = i; count = n }
-ran_to_c (NotRun r) = not_run (refusal_number r)
-ran_to_c UnfitRun = not_run 8
+abbrev pub ran_to_c : Result Ran WiderRefusal → CRan
+ran_to_c (Ok (RanToEnd n a)) = record { refusal = 0; attached = flag a; index = 0; count = n }
+ran_to_c (Ok (RanInto7 i n)) = record { refusal = 7; attached = 0; index = i; count = n }
+ran_to_c (Err w) = not_run (wider_number 8 w)
 
 -- what a run is told, from C
 abbrev pub settings : (size kind flag direction s u : ℕ) → Settings

@@ -1,14 +1,13 @@
 // Answers as numbers: what each case of an answer is for C. specs/Layout.antt gives the numbers.
 ghost use Rattle.std.specs.Prelude.{◌≡◌};
-ghost use Rattle.gpos_c.specs.Layout.{done_number, flag, to_c, list_of, moved_number, neighbour, not_run, ran_to_c, set};
-ghost use Rattle.gpos_c.specs.Layout.{laid as Layout·laid, settings as Layout·settings};
+ghost use Rattle.gpos_c.specs.Layout.{done_number, laid as Layout·laid, list_of, moved_number, neighbour, ran_to_c};
+ghost use Rattle.gpos_c.specs.Layout.{set, to_c};
 
-use answers::{Answer, Done, Hazards, Moved, Neighbour, Ran, refusal_number};
-use lookup::state::Settings;
-use records::{HazardRecord, record_of};
+use answers::{Answer, Hazards, Neighbour, Ran, Refusal, WiderRefusal};
+use records::HazardRecord;
 
 #[repr(C)]
-#[derive(Clone, Copy)]
+#[derive(Clone, Copy, PartialEq, Eq)]
 pub struct CAnswer {
     pub status: u32,
     pub refusal: u32,
@@ -19,7 +18,7 @@ pub struct CAnswer {
 }
 
 #[repr(C)]
-#[derive(Clone, Copy)]
+#[derive(Clone, Copy, PartialEq, Eq)]
 pub struct CRan {
     pub refusal: u32,
     pub attached: u32,
@@ -34,45 +33,36 @@ struct List {
     hazard: [HazardRecord; 2],
 }
 
-// A flag from C: any number but 0 sets it.
+// A flag from C, which gives it as a number: any but 0 sets it.
 pub fn is_set(n: u32) -> bool
     ensures { result ≡ set n }
 {
-    if n == 0 {
-        return false;
-    }
-    true
+    n != 0
 }
 
-// A neighbour from C: the slot n, or none, with the bound n.
+// A neighbour from C, as a flag and a number: the slot n, or none, with the bound n.
 pub fn neighbour_of(missing: u32, n: usize) -> Neighbour
     ensures { result ≡ neighbour missing n }
 {
-    if missing == 0 {
-        return Neighbour::Named(n);
+    if is_set(missing) {
+        Neighbour::Missing(n)
+    } else {
+        Neighbour::Named(n)
     }
-    Neighbour::Missing(n)
 }
 
-// 0 where the call is done.
-pub fn done_number(d: Done) -> u32
-    ensures { result ≡ done_number d }
+// 0 where the call is done. It and the next can't be a `From`, whose two types would both be the language's own.
+pub fn done_number(done: Result<(), Refusal>) -> u32
+    ensures { result ≡ done_number done }
 {
-    match d {
-        Done::Done => 0,
-        Done::Refused(x) => refusal_number(x),
-    }
+    done.map_or_else(|refusal| refusal.into(), |()| 0)
 }
 
 // The same of a move, which has refusal 10 besides.
-pub fn moved_number(m: Moved) -> u32
-    ensures { result ≡ moved_number m }
+pub fn moved_number(moved: Result<(), WiderRefusal>) -> u32
+    ensures { result ≡ moved_number moved }
 {
-    match m {
-        Moved::Done => 0,
-        Moved::Refused(x) => refusal_number(x),
-        Moved::Unfit => 10,
-    }
+    moved.map_or_else(|refusal| refusal.number(10), |()| 0)
 }
 
 // Zeros where there is no hazard.
@@ -93,93 +83,71 @@ fn list_of(hs: Hazards) -> List
         },
         Hazards::One(h) => List {
             count: 1,
-            hazard: [record_of(h), NO_HAZARD],
+            hazard: [h.into(), NO_HAZARD],
         },
         Hazards::Two(h, g) => List {
             count: 2,
-            hazard: [record_of(h), record_of(g)],
+            hazard: [h.into(), g.into()],
         },
     }
-}
-
-fn flag_of(a: bool) -> u32
-    ensures { result ≡ flag a }
-{
-    if a { 1 } else { 0 }
 }
 
 // An answer of these numbers and hazards.
 pub fn laid(status: u32, refusal: u32, attached: u32, next: usize, hazards: Hazards) -> CAnswer
     ensures { result ≡ Layout·laid status refusal attached next hazards }
 {
-    let list = list_of(hazards);
-    let two = list.hazard;
+    let List { count, hazard } = list_of(hazards);
     CAnswer {
-        status: status,
-        refusal: refusal,
-        attached: attached,
-        count: list.count,
-        next: next,
-        hazard: two,
+        status,
+        refusal,
+        attached,
+        count,
+        next,
+        hazard,
     }
 }
 
-pub fn to_c(a: Answer) -> CAnswer
-    ensures { result ≡ to_c a }
-{
-    match a {
-        Answer::Applied {
-            next,
-            hazards,
-            attached,
-        } => laid(1, 0, flag_of(attached), next, hazards),
-        Answer::Declined { hazards } => laid(2, 0, 0, 0, hazards),
-        Answer::Refused(x) => laid(3, refusal_number(x), 0, 0, Hazards::None),
+impl From<Result<Answer, Refusal>> for CAnswer {
+    ghost from_gives = { λ answer a. a ≡ to_c answer };
+
+    fn from(answer: Result<Answer, Refusal>) -> CAnswer {
+        match answer {
+            Ok(
+                Answer::Applied {
+                    next,
+                    hazards,
+                    attached,
+                },
+            ) => laid(1, 0, attached as u32, next, hazards),
+            Ok(Answer::Declined { hazards }) => laid(2, 0, 0, 0, hazards),
+            Err(refusal) => laid(3, refusal.into(), 0, 0, Hazards::None),
+        }
     }
 }
 
-// What a run is told, from C.
-pub fn settings_of(size: usize, kind: u32, flag: u32, direction: u32, s: u32, u: u32) -> Settings
-    ensures { result ≡ Layout·settings size kind flag direction s u }
-{
-    Settings {
-        size: size,
-        kind: kind,
-        flag: flag,
-        direction: direction,
-        s: s,
-        u: u,
-    }
-}
+impl From<Result<Ran, WiderRefusal>> for CRan {
+    ghost from_gives = { λ ran r. r ≡ ran_to_c ran };
 
-pub fn ran_to_c(r: Ran) -> CRan
-    ensures { result ≡ ran_to_c r }
-{
-    match r {
-        Ran::Done { records, attached } => CRan {
-            refusal: 0,
-            attached: flag_of(attached),
-            index: 0,
-            count: records,
-        },
-        Ran::Endless { index, records } => CRan {
-            refusal: 7,
-            attached: 0,
-            index: index,
-            count: records,
-        },
-        Ran::Refused(x) => not_run(refusal_number(x)),
-        Ran::Unfit => not_run(8),
-    }
-}
-
-fn not_run(number: u32) -> CRan
-    ensures { result ≡ not_run number }
-{
-    CRan {
-        refusal: number,
-        attached: 0,
-        index: 0,
-        count: 0,
+    fn from(ran: Result<Ran, WiderRefusal>) -> CRan {
+        match ran {
+            Ok(Ran::Done { records, attached }) => CRan {
+                refusal: 0,
+                attached: attached as u32,
+                index: 0,
+                count: records,
+            },
+            Ok(Ran::Endless { index, records }) => CRan {
+                refusal: 7,
+                attached: 0,
+                index,
+                count: records,
+            },
+            Err(refusal) => CRan {
+                refusal: refusal.number(8),
+                attached: 0,
+                index: 0,
+                count: 0,
+            },
+        }
     }
 }

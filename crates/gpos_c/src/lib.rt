@@ -18,7 +18,8 @@ ghost use Rattle.gpos_c.specs.Layout.{done_number, to_c, IsLayoutOf, moved_numbe
 ghost use Rattle.gpos_c.specs.Layout.{settings};
 
 pub use layout::{CAnswer, CRan, laid};
-use layout::{done_number, is_set, moved_number, neighbour_of, ran_to_c, settings_of, to_c};
+use layout::{done_number, is_set, moved_number, neighbour_of};
+use lookup::state::Settings;
 use records::HazardRecord;
 
 pub fn gpos_start(line: &mut [u8], size: usize) -> u32
@@ -52,7 +53,7 @@ pub fn gpos_single(
     ensures { IsLayoutOf to_c (λ a. SingleCall size line.old
         subtable.now direction s u index a line.new) result }
 {
-    to_c(gpos::single(line, size, subtable, direction, s, u, index))
+    gpos::single(line, size, subtable, direction, s, u, index).into()
 }
 
 pub fn gpos_pair(
@@ -69,7 +70,7 @@ pub fn gpos_pair(
     ensures { IsLayoutOf to_c (λ a. PairCall size line.old subtable.now direction s u index
         (neighbour missing second) a line.new) result }
 {
-    to_c(gpos::pair(
+    gpos::pair(
         line,
         size,
         subtable,
@@ -78,7 +79,8 @@ pub fn gpos_pair(
         u,
         index,
         neighbour_of(missing, second),
-    ))
+    )
+    .into()
 }
 
 pub fn gpos_cursive(
@@ -96,7 +98,7 @@ pub fn gpos_cursive(
     ensures { IsLayoutOf to_c (λ a. CursiveCall size line.old
         subtable.now direction s u index (neighbour missing previous) flag a line.new) result }
 {
-    to_c(gpos::cursive(
+    gpos::cursive(
         line,
         size,
         subtable,
@@ -106,7 +108,8 @@ pub fn gpos_cursive(
         index,
         neighbour_of(missing, previous),
         flag,
-    ))
+    )
+    .into()
 }
 
 pub fn gpos_mark_base(
@@ -121,7 +124,7 @@ pub fn gpos_mark_base(
     ensures { IsLayoutOf to_c (λ a. MarkCall (Search Base) size line.old
         subtable.now direction s u index a line.new) result }
 {
-    to_c(gpos::mark_base(line, size, subtable, direction, s, u, index))
+    gpos::mark_base(line, size, subtable, direction, s, u, index).into()
 }
 
 pub fn gpos_mark_ligature(
@@ -136,7 +139,7 @@ pub fn gpos_mark_ligature(
     ensures { IsLayoutOf to_c (λ a. MarkCall (Search Ligature) size line.old
         subtable.now direction s u index a line.new) result }
 {
-    to_c(gpos::mark_ligature(line, size, subtable, direction, s, u, index))
+    gpos::mark_ligature(line, size, subtable, direction, s, u, index).into()
 }
 
 pub fn gpos_mark_mark(
@@ -153,7 +156,7 @@ pub fn gpos_mark_mark(
     ensures { IsLayoutOf to_c (λ a. MarkCall (Earlier (neighbour missing earlier)) size line.old
         subtable.now direction s u index a line.new) result }
 {
-    to_c(gpos::mark_mark(
+    gpos::mark_mark(
         line,
         size,
         subtable,
@@ -162,7 +165,8 @@ pub fn gpos_mark_mark(
         u,
         index,
         neighbour_of(missing, earlier),
-    ))
+    )
+    .into()
 }
 
 pub fn gpos_lookup(
@@ -181,13 +185,15 @@ pub fn gpos_lookup(
         subtables.now lengths.now list.old a line.new
         list.new) result }
 {
-    ran_to_c(gpos::lookup(
-        line,
-        subtables,
-        lengths,
-        list,
-        settings_of(size, kind, flag, direction, s, u),
-    ))
+    let settings = Settings {
+        size,
+        kind,
+        flag,
+        direction,
+        s,
+        u,
+    };
+    gpos::lookup(line, subtables, lengths, list, settings).into()
 }
 
 pub fn gpos_to_clusters(line: &[u8], target: &mut [u8]) -> u32
