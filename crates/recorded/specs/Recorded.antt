@@ -1,8 +1,10 @@
 -- What the head of a call records: 24 numbers, those of the call and those of its answer. Assumes nothing.
-use Rattle.std.specs.Prelude.{Bool, List, [], ◌∷◌, ℕ, ◌+◌, ◌*◌, ltb, if◌then◌else◌}
+use Rattle.std.specs.Prelude.{Bool, List, [], ◌∷◌, ℕ, ◌+◌, ◌*◌, if◌then◌else◌}
 use Rattle.ints.specs.BigEndian.{nat_at}
 use Rattle.records.specs.declared.HazardRecord.{HazardRecord}
 use Rattle.gpos_c.specs.declared.layout.CAnswer.{CAnswer}
+use Rattle.recorded.specs.Kind.{is_move}
+use Rattle.recorded.specs.declared.kind.Kind.{Kind}
 use Rattle.recorded.specs.declared.numbers.Call.{Call}
 use Rattle.recorded.specs.declared.numbers.Numbers.{Numbers}
 
@@ -10,10 +12,10 @@ use Rattle.recorded.specs.declared.numbers.Numbers.{Numbers}
 abbrev pub number_at : List ℕ → ℕ → ℕ
 number_at head k = nat_at 4 head (k * 4)
 
--- the numbers that the call is made with
-abbrev pub numbers_of : List ℕ → Numbers
-numbers_of head = record {
-  kind = number_at head 0;
+-- the numbers that a call of this kind is made with
+abbrev pub numbers_of : Kind → List ℕ → Numbers
+numbers_of kind head = record {
+  kind = kind;
   direction = number_at head 1;
   s = number_at head 2;
   u = number_at head 3;
@@ -44,14 +46,14 @@ recorded_answer head = record {
   hazard = recorded_hazard head 18 ∷ recorded_hazard head 21 ∷ [];
 }
 
--- is a move recorded? Kinds 8 and 9 are moves, those below are calls on one line
+-- is a move recorded?
 abbrev pub has_target : Numbers → Bool
-has_target n = ltb 7 n.kind
+has_target n = is_move n.kind
 
 -- what a call may write: of a line and of what is in place of the subtable, the latter where it is the target of a move
 abbrev pub afterwards : {A : Type 0} → Numbers → A → A → A
 afterwards n line target = if has_target n then target else line
 
--- the call, with its answer
-abbrev pub call_of : List ℕ → Call
-call_of head = record { numbers = numbers_of head; answer = recorded_answer head }
+-- a call of this kind, with its answer
+abbrev pub call_of : Kind → List ℕ → Call
+call_of kind head = record { numbers = numbers_of kind head; answer = recorded_answer head }

@@ -3,8 +3,9 @@
 #![tactic(auto)]
 
 mod comparing; // is it what was recorded?
-pub mod kinds; // which call
+mod kind; // which call
 mod numbers; // what was recorded
 
 pub use comparing::{is_after, is_answer};
-pub use numbers::{Call, Numbers, after_length, call_of, has_target, unsigned};
+pub use kind::{Kind, UnknownKind};
+pub use numbers::{Call, Numbers, after_length, call_of, has_target, kind_of, unsigned};

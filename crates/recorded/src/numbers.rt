@@ -2,10 +2,11 @@
 // stands.
 ghost use Rattle.std.specs.Prelude.{◌≡◌, ◌+◌, ◌<◌, ◌≤◌, length};
 ghost use Rattle.ints.specs.BigEndian.{nat_at};
+ghost use Rattle.recorded.specs.Kind.{IsNamedBy};
 ghost use Rattle.recorded.specs.Recorded.{afterwards, call_of, has_target, number_at, numbers_of, recorded_answer};
 ghost use Rattle.recorded.specs.Recorded.{recorded_hazard};
 
-use crate::kinds::MARK_MARK;
+use crate::kind::{Kind, UnknownKind};
 use gpos_c::CAnswer;
 use records::HazardRecord;
 
@@ -13,7 +14,7 @@ use records::HazardRecord;
 // subtable.
 #[derive(Clone, Copy)]
 pub struct Numbers {
-    pub kind: u32,
+    pub kind: Kind,
     pub direction: u32,
     pub s: u32,
     pub u: u32,
@@ -36,6 +37,7 @@ pub struct Call {
 }
 
 // The unsigned number in the four bytes at `at`: its bits are those of the signed one.
+#[tactic(auto, using(crate::proofs::RecordedLaws::pattern_at))]
 pub fn unsigned(s: &[u8], at: usize) -> u32
     requires { at + 4 ≤ length s.now }
     ensures { result ≡ nat_at 4 s.now at }
@@ -58,11 +60,12 @@ fn place(head: &[u8; 96], k: usize) -> usize
     number(head, k) as usize
 }
 
-fn numbers_of(head: &[u8; 96]) -> Numbers
-    ensures { result ≡ numbers_of head.now }
+// What a call of a kind is made with.
+fn numbers_of(kind: Kind, head: &[u8; 96]) -> Numbers
+    ensures { result ≡ numbers_of kind head.now }
 {
     Numbers {
-        kind: number(head, 0),
+        kind: kind,
         direction: number(head, 1),
         s: number(head, 2),
         u: number(head, 3),
@@ -103,11 +106,19 @@ fn answer_of(head: &[u8; 96]) -> CAnswer
     }
 }
 
-pub fn call_of(head: &[u8; 96]) -> Call
-    ensures { result ≡ call_of head.now }
+// Which call it is, where number 0 is a kind's.
+pub fn kind_of(head: &[u8; 96]) -> Result<Kind, UnknownKind>
+    ensures { IsNamedBy (number_at head.now 0) result }
+{
+    number(head, 0).try_into()
+}
+
+// The call, of that kind.
+pub fn call_of(kind: Kind, head: &[u8; 96]) -> Call
+    ensures { result ≡ call_of kind head.now }
 {
     Call {
-        numbers: numbers_of(head),
+        numbers: numbers_of(kind, head),
         answer: answer_of(head),
     }
 }
@@ -116,7 +127,7 @@ pub fn call_of(head: &[u8; 96]) -> Call
 pub fn has_target(n: Numbers) -> bool
     ensures { result ≡ has_target n }
 {
-    MARK_MARK < n.kind
+    matches!(n.kind, Kind::ToClusters | Kind::FromClusters)
 }
 
 // How many bytes are recorded afterwards: as many as the target has, else as the line.

@@ -1,23 +1,20 @@
--- Two answers of which a number differs are not the same; where the numbers agree, the hazards decide. Assumes nothing.
+-- The hazards are compared one by one, and a hazard number by number. Assumes nothing.
+use mathlib.Core.Path.{◌≡◌}
+use mathlib.Core.Bool.{Bool, ◌&&◌}
+use lib.Dec.{eqb}
+use Rattle.std.proofs.Common.{Decides, rules}
+use Rattle.std.specs.Cmp.Lexicographic.{pointwise_decides}
 use Rattle.gpos_c.specs.declared.layout.CAnswer.{CAnswer}
-use Rattle.recorded.proofs.RecordedLaws.{answer_by_hazards, differ}
+use Rattle.records.specs.declared.HazardRecord.{HazardRecord}
 use Rattle.recorded.proofs.comparing.is_answer.Goals as goal
 
-pub returns-then-a-b : goal.returns-then-a-b
-returns-then-a-b c = differ (λ (a : CAnswer). a.status) _ _ c.if-a-b.true
+one_hazard : (a b : HazardRecord) → Decides (eqb a.kind b.kind && (eqb a.start b.start && eqb a.end b.end)) (a ≡ b)
+one_hazard a b = search rules
 
-pub returns-then-a-b-2 : goal.returns-then-a-b-2
-returns-then-a-b-2 c = differ (λ (a : CAnswer). a.refusal) _ _ c.if-a-b-2.true
-
-pub returns-then-a-b-3 : goal.returns-then-a-b-3
-returns-then-a-b-3 c = differ (λ (a : CAnswer). a.attached) _ _ c.if-a-b-3.true
-
-pub returns-then-a-b-4 : goal.returns-then-a-b-4
-returns-then-a-b-4 c = differ (λ (a : CAnswer). a.count) _ _ c.if-a-b-4.true
-
-pub returns-then-a-b-5 : goal.returns-then-a-b-5
-returns-then-a-b-5 c = differ (λ (a : CAnswer). a.next) _ _ c.if-a-b-5.true
+by_hazards : (a b : CAnswer) (hazards r : Bool) → Decides hazards (a.hazard ≡ b.hazard)
+    → r ≡ (eqb a.status b.status && (eqb a.refusal b.refusal && (eqb a.attached b.attached && (eqb a.count b.count && (eqb a.next b.next && hazards)))))
+    → Decides r (a ≡ b)
+by_hazards a b hazards r h e = search (rules, h.0, h.1)
 
 pub returns : goal.returns
-returns c =
-    answer_by_hazards _ _ _ c.if-a-b.false c.if-a-b-2.false c.if-a-b-3.false c.if-a-b-4.false c.if-a-b-5.false c.is_hazards.ensures
+returns c = by_hazards _ _ _ _ (pointwise_decides one_hazard c.args.a.hazard c.args.b.hazard) c.eq.ensures
