@@ -2,9 +2,8 @@
 ghost use Rattle.std.specs.Prelude.{true, ◌≡◌, ◌≤◌, length, take, IfOk};
 ghost use Rattle.std.specs.Io.KnownBytes.{Consumes};
 
-use crate::replaying::{Remade, replay, unmade};
-use recorded::kinds::FROM_CLUSTERS;
-use recorded::{after_length, call_of, unsigned};
+use crate::replaying::{Remade, replay};
+use recorded::{after_length, call_of, kind_of, unsigned};
 use std::io;
 use std::io::{ErrorKind, Read};
 
@@ -31,32 +30,28 @@ pub fn list_number<R: Read>(input: &mut R) -> io::Result<u32> {
     Ok(unsigned(&space, 0))
 }
 
-// Reads the next call of the list into its buffers, makes it, and compares. It can't be made where its kind is none
-// that there is, or a part can't be read.
+// Reads the next call of the list into its buffers, makes it, and compares; none where its kind is none that there is, or
+// a part can't be read.
 pub fn next<R: Read>(
     input: &mut R,
     line: &mut [u8; 65536],
     subtable: &mut [u8; 65536],
-) -> io::Result<Remade> {
+) -> io::Result<Option<Remade>> {
     let mut head = [0u8; 96];
-    let mut after = [0u8; 65536];
-    let complete = is_read(input, &mut head, 96)?;
-    let c = call_of(&head);
+    if !is_read(input, &mut head, 96)? {
+        return Ok(None);
+    }
+    let Ok(kind) = kind_of(&head) else {
+        return Ok(None);
+    };
+    let c = call_of(kind, &head);
     let n = c.numbers;
+    let mut after = [0u8; 65536];
+    let complete = is_read(input, line, n.line)?
+        && is_read(input, subtable, n.subtable)?
+        && is_read(input, &mut after, after_length(n))?;
     if !complete {
-        return Ok(unmade(c));
+        return Ok(None);
     }
-    if FROM_CLUSTERS < n.kind {
-        return Ok(unmade(c));
-    }
-    if !is_read(input, line, n.line)? {
-        return Ok(unmade(c));
-    }
-    if !is_read(input, subtable, n.subtable)? {
-        return Ok(unmade(c));
-    }
-    if !is_read(input, &mut after, after_length(n))? {
-        return Ok(unmade(c));
-    }
-    Ok(replay(c, line, subtable, &after))
+    Ok(Some(replay(c, line, subtable, &after)))
 }

@@ -1,5 +1,5 @@
 // A recorded call, made again and compared.
-ghost use Rattle.std.specs.Prelude.{true, false, ◌≡◌, ◌<◌};
+ghost use Rattle.std.specs.Prelude.{true, ◌≡◌};
 ghost use Rattle.recorded.specs.Recorded.{afterwards};
 ghost use Rattle.calls.specs.Made.{Made, Replayed, ReplayedIn, Room};
 
@@ -7,53 +7,26 @@ use crate::making::make;
 use gpos_c::CAnswer;
 use recorded::{Call, Numbers, after_length, is_after, is_answer};
 
-// A call's numbers, whether it was made again, what it answered, and whether that and the bytes afterwards are as
-// recorded.
+// A call's numbers, what it answered when it was made again, and whether that and the bytes afterwards are as recorded.
 #[derive(Clone, Copy)]
 pub struct Remade {
     pub numbers: Numbers,
-    pub made: bool,
     pub answer: CAnswer,
     pub alike: bool,
 }
 
-// A call that can't be made.
-pub fn unmade(c: Call) -> Remade
-    ensures { result.alike ≡ false }
-{
-    let n = c.numbers;
-    let a = c.answer;
-    Remade {
-        numbers: n,
-        made: false,
-        answer: a,
-        alike: false,
-    }
-}
-
 // Makes a recorded call again on its own bytes.
 fn replay_on(c: Call, line: &mut [u8], subtable: &mut [u8], after: &[u8]) -> Remade
-    requires { c.numbers.kind < 10 }
     ensures made { Made c.numbers line.old subtable.old result.answer
         (afterwards c.numbers line.new subtable.new) }
     ensures replayed { result.alike ≡ true → Replayed c line.old subtable.old after.now }
 {
     let n = c.numbers;
-    let recorded = c.answer;
-    let a = make(n, line, subtable);
-    if !is_answer(a, recorded) {
-        return Remade {
-            numbers: n,
-            made: true,
-            answer: a,
-            alike: false,
-        };
-    }
+    let answer = make(n, line, subtable);
     Remade {
         numbers: n,
-        made: true,
-        answer: a,
-        alike: is_after(n, line, subtable, after),
+        answer: answer,
+        alike: is_answer(answer, c.answer) && is_after(n, line, subtable, after),
     }
 }
 
@@ -64,8 +37,11 @@ pub fn replay(c: Call, line: &mut [u8], subtable: &mut [u8], after: &[u8]) -> Re
         after.now }
 {
     let n = c.numbers;
-    let l = n.line;
-    let t = n.subtable;
     let k = after_length(n);
-    replay_on(c, &mut line[..l], &mut subtable[..t], &after[..k])
+    replay_on(
+        c,
+        &mut line[..n.line],
+        &mut subtable[..n.subtable],
+        &after[..k],
+    )
 }
