@@ -1,4 +1,5 @@
 -- Of every answer of an applying call: that it has few hazards, and that it goes on ahead, both from all that its core may say. Assumes nothing.
+use mathlib.Core.Path.{refl}
 use mathlib.Core.Bool.{Bool, true}
 use mathlib.Core.List.{List, [], ◌∷◌}
 use Prim.Native.Nat.{ℕ, ◌+◌, ◌<◌}
@@ -21,65 +22,72 @@ use Rattle.targets.specs.declared.place.Way.{Way}
 use Rattle.marks.specs.Attachment.{mark_attachment}
 use Rattle.marks.proofs.SaidLaws.{says as mark_says}
 use Rattle.answers.specs.theorems.Hazards.{FewHazards}
-use Rattle.answers.specs.Outcome.{Call}
-use Rattle.answers.specs.Said.{applied, declined, Range, refused, Said, said}
-use Rattle.answers.specs.declared.Answer.{Answer}
+use Rattle.answers.specs.Outcome.{answer_to, Call}
+use Rattle.answers.specs.Said.{applied, declined, Range, refused, Said}
 use Rattle.answers.specs.declared.Neighbour.{Neighbour}
 use Rattle.checks.specs.declared.neighbours.Beside.{Beside}
 use Rattle.checks.specs.declared.neighbours.Beside.TheVariants.{Nothing, Second, Previous}
-use Rattle.gpos.specs.SinglePos.{SingleCall}
-use Rattle.gpos.specs.PairPos.{PairCall}
-use Rattle.gpos.specs.CursivePos.{CursiveCall}
-use Rattle.gpos.specs.MarkPos.{beside_of, MarkCall}
-use Rattle.gpos.proofs.ApplyingLaws.{of_made, Parts}
+use Rattle.gpos.specs.SinglePos.{single}
+use Rattle.gpos.specs.PairPos.{pair}
+use Rattle.gpos.specs.CursivePos.{cursive}
+use Rattle.gpos.specs.MarkPos.{beside_of, mark}
+use Rattle.gpos.proofs.ApplyingLaws.{call_of, of_made, Parts}
+use Rattle.gpos.proofs.NeighbourLaws.{Near}
 use Rattle.theorems.specs.Next.{Advances}
 
-module _ (z : ℕ) (l t : List ℕ) (direction s u i : ℕ) (r : Answer) (l' : List ℕ) where
+-- few hazards; and the next index above i and at most n
+abbrev pub Fair : ℕ → ℕ → Said → Type 0
+Fair i n given = FewHazards given × Advances i n given
+
+module _ (z : ℕ) (l t : List ℕ) (direction s u i : ℕ) where
   abbrev ss : List Slot
   ss = line_slots z l
 
   abbrev d : Direction
   d = direction_of direction
 
-  -- few hazards; and the next index above i and at most the number of slots
-  abbrev Fair : Said → Type 0
-  Fair given = FewHazards given × Advances i (length ss) given
+  abbrev Here : Said → Type 0
+  Here = Fair i (length ss)
 
   -- it holds of what several calls may say
-  refuses : (m : ℕ) → Fair (refused m)
+  refuses : (m : ℕ) → Here (refused m)
   refuses m = (omega arith, tt)
 
-  declines : Fair (declined [])
+  declines : Here (declined [])
   declines = (omega arith, tt)
 
-  misses : (h : Range) → Fair (declined (h ∷ []))
+  misses : (h : Range) → Here (declined (h ∷ []))
   misses h = (omega arith, tt)
 
-  attaches : i < length ss → (h : Range) (attached : Bool) → Fair (applied (i + 1) (h ∷ []) attached)
+  attaches : i < length ss → (h : Range) (attached : Bool) → Here (applied (i + 1) (h ∷ []) attached)
   attaches in_line h attached = (omega arith, (omega arith, omega arith))
 
-  -- a call, by what is beside its index, its subtable and its core
-  abbrev parts : Beside → Bool → (Direction → Call) → Parts
-  parts beside good core = record { direction = direction; s = s; u = u; index = i; beside = beside; good = good; core = core }
+  -- of a call, by what is beside its index, its subtable and its core: where the index is in its place
+  module _ (beside : Beside) (good : Bool) (core : Direction → Call) where
+    abbrev parts : Parts
+    parts = record { direction = direction; s = s; u = u; index = i; beside = beside; good = good; core = core }
 
-  pub single_fair : SingleCall z l t direction s u i r l' → Fair (said r)
-  single_fair o =
-      of_made (parts Nothing (single_good t) (λ d. single_adjustment t d s u i)) z l Fair refuses
-      (λ in_place. single-says Fair t ss i declines (omega arith, (omega arith, omega arith))) o
+    by_core : ((i < length ss) × Near (length ss) i beside → Here ((core d).says ss)) → Here (answer_to (call_of parts) z l)
+    by_core follows = of_made parts z l Here refuses follows (record { answer = refl; line = refl })
 
-  pub pair_fair : (second : Neighbour) → PairCall z l t direction s u i second r l' → Fair (said r)
-  pair_fair second o =
-      of_made (parts (Second second) (pair_good t) (λ d. pair_adjustment t d s u i second)) z l Fair refuses
-      (λ in_place. pair-says Fair d t ss i second declines misses
+  pub single_fair : Here (answer_to (single t direction s u i) z l)
+  single_fair =
+      by_core Nothing (single_good t) (λ d. single_adjustment t d s u i)
+      (λ in_place. single-says Here t ss i declines (omega arith, (omega arith, omega arith)))
+
+  pub pair_fair : (second : Neighbour) → Here (answer_to (pair t direction s u i second) z l)
+  pair_fair second =
+      by_core (Second second) (pair_good t) (λ d. pair_adjustment t d s u i second)
+      (λ in_place. pair-says Here d t ss i second declines misses
       (λ j named h. let near = rw named at in_place.1 in (omega arith, (omega arith, omega arith)))
-      (λ j named h g. let near = rw named at in_place.1 in (omega arith, (omega arith, omega arith)))) o
+      (λ j named h g. let near = rw named at in_place.1 in (omega arith, (omega arith, omega arith))))
 
-  pub cursive_fair : (previous : Neighbour) (flag : ℕ) → CursiveCall z l t direction s u i previous flag r l' → Fair (said r)
-  cursive_fair previous flag o =
-      of_made (parts (Previous previous) (cursive_good t) (λ d. cursive_attachment t d s u i previous flag)) z l Fair refuses
-      (λ in_place. cursive-says Fair t ss i declines misses (λ h. attaches in_place.0 h true) previous) o
+  pub cursive_fair : (previous : Neighbour) (flag : ℕ) → Here (answer_to (cursive t direction s u i previous flag) z l)
+  cursive_fair previous flag =
+      by_core (Previous previous) (cursive_good t) (λ d. cursive_attachment t d s u i previous flag)
+      (λ in_place. cursive-says Here t ss i declines misses (λ h. attaches in_place.0 h true) previous)
 
-  pub mark_fair : (way : Way) → MarkCall way z l t direction s u i r l' → Fair (said r)
-  mark_fair way o =
-      of_made (parts (beside_of way) (marks_good t) (λ d. mark_attachment way t d s u i)) z l Fair refuses
-      (λ in_place. mark_says Fair way (cross d) t ss i (refuses 7) declines misses (attaches in_place.0)) o
+  pub mark_fair : (way : Way) → Here (answer_to (mark way t direction s u i) z l)
+  mark_fair way =
+      by_core (beside_of way) (marks_good t) (λ d. mark_attachment way t d s u i)
+      (λ in_place. mark_says Here way (cross d) t ss i (refuses 7) declines misses (attaches in_place.0))

@@ -1,18 +1,18 @@
 -- Slots with other clusters: which reads don't see them, which changes commute with them, and what that says of clusters. Assumes nothing.
 use Rattle.std.specs.Prelude.{if◌then◌else◌}
-use mathlib.Core.Bool.{Bool, true, false, not, ◌||◌}
+use mathlib.Core.Bool.{Bool, true, false, not}
 use mathlib.Core.List.{List, [], ◌∷◌, map}
 use mathlib.Core.Path.{◌≡◌, refl, sym, ap, ap₂, ◌∙◌}
 use Prim.Native.Nat.{ℕ, zero, suc}
 use native.Mathlib.Omega.{arith}
 use lib.Dec.{eqb}
 use lib.IntN.{ℤ, pos, nat_abs}
-use lib.ListN.{length, take, drop, length-map}
-use lib.Seq.{slice}
+use lib.ListN.{length, length-map}
 use Rattle.slots.specs.Slot.{Slot}
 use Rattle.slots.specs.Line.{slot, update}
 use Rattle.slots.specs.Fields.{advance, measure, with_chain, with_cluster, with_measure}
 use Rattle.slots.specs.theorems.Clusters.{Blind, clusters, KeepsClusters, with_clusters}
+use Rattle.slots.specs.theorems.Identity.{identities, identity}
 use Rattle.slots.specs.Numbered.{numbered_from}
 use Rattle.slots.specs.Parent.{by_parent, cleared, is_attached, parent, parent_by}
 use Rattle.slots.specs.declared.axis.Axis.{Axis}
@@ -22,7 +22,8 @@ use Rattle.slots.specs.declared.fields.Measure.TheVariants.{Advance, Offset}
 use Rattle.slots.specs.declared.parent.Parent.{Parent}
 use Rattle.slots.specs.declared.parent.Parent.TheVariants.{None, Outside, InLine}
 use Rattle.start.specs.Start.{started, unattached}
-use Rattle.checks.specs.Ranges.{bad_slot, some}
+use Rattle.checks.specs.Ranges.{bad_slots}
+use Rattle.lookup.proofs.IdentityLaws.{same_bad, same_length}
 
 -- ---- the slots with other clusters
 -- no clusters leave the slots
@@ -30,13 +31,6 @@ pub none_with : (ss : List Slot) → with_clusters [] ss ≡ ss
 unfolding with_clusters
 none_with [] = refl
 none_with (s ∷ ss) = refl
-
--- they are as many
-pub length_blind : Blind (λ ss. length ss)
-unfolding with_clusters
-length_blind cs [] = refl
-length_blind [] (s ∷ ss) = refl
-length_blind (c ∷ cs) (s ∷ ss) = ap suc (length_blind cs ss)
 
 -- slot i is as it was but for its cluster, outside the line too
 pub slot_with : (i : ℕ) (cs : List ℕ) (ss : List Slot) → slot (with_clusters cs ss) i ≡ with_cluster (slot (with_clusters cs ss) i).cluster (slot ss i)
@@ -46,62 +40,38 @@ slot_with i [] (s ∷ ss) = refl
 slot_with zero (c ∷ cs) (s ∷ ss) = refl
 slot_with (suc i) (c ∷ cs) (s ∷ ss) = slot_with i cs ss
 
--- the first n slots
-pub take_keeps : (n : ℕ) → KeepsClusters (λ ss. take n ss)
-unfolding with_clusters
-take_keeps zero cs ss = refl
-take_keeps (suc n) cs [] = refl
-take_keeps (suc n) [] (s ∷ ss) = refl
-take_keeps (suc n) (c ∷ cs) (s ∷ ss) = ap (λ (r : List Slot). with_cluster c s ∷ r) (take_keeps n cs ss)
-
--- the slots after the first n: as many clusters are dropped
-pub drop_with : (n : ℕ) (cs : List ℕ) (ss : List Slot) → drop n (with_clusters cs ss) ≡ with_clusters (drop n cs) (drop n ss)
-unfolding with_clusters
-drop_with zero cs ss = refl
-drop_with (suc n) cs [] = refl
-drop_with (suc n) [] (s ∷ ss) = sym (none_with (drop n ss))
-drop_with (suc n) (c ∷ cs) (s ∷ ss) = drop_with n cs ss
-
--- a part of the slots
-pub slice_with : (i j : ℕ) (cs : List ℕ) (ss : List Slot) → slice i j (with_clusters cs ss) ≡ with_clusters (drop i cs) (slice i j ss)
-slice_with i j cs ss = ap (drop i) (take_keeps j cs ss) ∙ drop_with i cs (take j ss)
-
 -- ---- reads and changes put together
 module _ {A : Type 0} {read : List Slot → A} (b : Blind read) where
   -- a read by what was read
   pub blind_by : {B : Type 0} (next : A → List Slot → B) → ((a : A) → Blind (next a)) → Blind (λ ss. next (read ss) ss)
   blind_by next n cs ss = ap (λ (a : A). next a (with_clusters cs ss)) (b cs ss) ∙ n (read ss) cs ss
 
-  -- a change by what was read
-  pub keeps_by : (change : A → List Slot → List Slot) → ((a : A) → KeepsClusters (change a)) → KeepsClusters (λ ss. change (read ss) ss)
-  keeps_by change k cs ss = ap (λ (a : A). change a (with_clusters cs ss)) (b cs ss) ∙ k (read ss) cs ss
-
   -- what a read is made into
   pub blind_as : {B : Type 0} (f : A → B) → Blind (λ ss. f (read ss))
   blind_as f cs ss = ap f (b cs ss)
-
-  -- a read after a change
-  pub blind_after : (change : List Slot → List Slot) → KeepsClusters change → Blind (λ ss. read (change ss))
-  blind_after change k cs ss = ap read (k cs ss) ∙ b cs (change ss)
-
-  -- a read of a part
-  pub slice_blind : (i j : ℕ) → Blind (λ ss. read (slice i j ss))
-  slice_blind i j cs ss = ap read (slice_with i j cs ss) ∙ b (drop i cs) (slice i j ss)
 
 -- no change
 pub same_keeps : KeepsClusters (λ ss. ss)
 same_keeps cs ss = refl
 
+-- `with` puts other clusters in, of one slot or of all
+module _ {C S : Type 0} {with : C → S → S} where
+  -- a change by what was read
+  pub keeps_by : {A : Type 0} {read : S → A} → ((c : C) (x : S) → read (with c x) ≡ read x) → (change : A → S → S)
+      → ((a : A) (c : C) (x : S) → change a (with c x) ≡ with c (change a x)) → (c : C) (x : S) → change (read (with c x)) (with c x) ≡ with c (change (read x) x)
+  keeps_by {A} {read} b change k c x = ap (λ (a : A). change a (with c x)) (b c x) ∙ k (read x) c x
+
+  module _ (f g : S → S) (h : (c : C) (x : S) → f (with c x) ≡ with c (f x)) (k : (c : C) (x : S) → g (with c x) ≡ with c (g x)) where
+    -- two changes, one after the other
+    pub keeps_after : (c : C) (x : S) → g (f (with c x)) ≡ with c (g (f x))
+    keeps_after c x = ap g (h c x) ∙ k c (f x)
+
+    -- a choice between two changes
+    pub if_keeps : (t : Bool) (c : C) (x : S) → (if t then f (with c x) else g (with c x)) ≡ with c (if t then f x else g x)
+    if_keeps true = h
+    if_keeps false = k
+
 module _ (f g : List Slot → List Slot) (h : KeepsClusters f) (k : KeepsClusters g) where
-  -- two changes, one after the other
-  pub keeps_after : KeepsClusters (λ ss. g (f ss))
-  keeps_after cs ss = ap g (h cs ss) ∙ k cs (f ss)
-
-  -- a choice between two changes
-  pub if_keeps : (t : Bool) → KeepsClusters (λ ss. if t then f ss else g ss)
-  if_keeps true = h
-  if_keeps false = k
-
   -- a choice by a parent
   pub by_parent_keeps : (at : ℕ → List Slot → List Slot) → ((j : ℕ) → KeepsClusters (at j))
       → (p : Parent) → KeepsClusters (λ ss. by_parent p (f ss) (g ss) (λ j. at j ss))
@@ -117,14 +87,6 @@ SlotBlind {A} g = (c : ℕ) (s : Slot) → g (with_cluster c s) ≡ g s
 -- a change of a slot commutes with another cluster
 abbrev pub SlotKeeps : (Slot → Slot) → Type 0
 SlotKeeps f = (c : ℕ) (s : Slot) → f (with_cluster c s) ≡ with_cluster c (f s)
-
--- a change by what was read of the slot
-pub slot_by : {A : Type 0} (g : Slot → A) (f : A → Slot → Slot) → SlotBlind g → ((a : A) → SlotKeeps (f a)) → SlotKeeps (λ s. f (g s) s)
-slot_by {A = A} g f b k c s = ap (λ (a : A). f a (with_cluster c s)) (b c s) ∙ k (g s) c s
-
--- two changes
-pub slot_after : (f g : Slot → Slot) → SlotKeeps f → SlotKeeps g → SlotKeeps (λ s. g (f s))
-slot_after f g h k c s = ap g (h c s) ∙ k c (f s)
 
 -- an advance or an offset is read without the cluster
 pub measure_sees : (m : Measure) (a : Axis) → SlotBlind (measure m a)
@@ -153,16 +115,17 @@ module _ {A : Type 0} (g : Slot → A) (h : SlotBlind g) where
   map_blind [] (s ∷ ss) = refl
   map_blind (c ∷ cs) (s ∷ ss) = ap₂ (λ (a : A) (r : List A). a ∷ r) (h c s) (map_blind cs ss)
 
--- whether some slot passes a test
-pub some_blind : (p : Slot → Bool) → SlotBlind p → Blind (some p)
-unfolding with_clusters some
-some_blind p h cs [] = refl
-some_blind p h [] (s ∷ ss) = refl
-some_blind p h (c ∷ cs) (s ∷ ss) = ap₂ ◌||◌ (h c s) (some_blind p h cs ss)
+-- what the slots are: their clusters are no part of that
+pub identities_blind : Blind identities
+identities_blind = map_blind identity (λ c s. refl)
 
--- whether some slot is out of range
-pub range_blind : Blind (some bad_slot)
-range_blind = some_blind bad_slot (λ c s. refl)
+-- so they are as many
+pub length_blind : Blind (λ ss. length ss)
+length_blind cs ss = same_length (with_clusters cs ss) ss (identities_blind cs ss)
+
+-- and as much out of range
+pub range_blind : Blind bad_slots
+range_blind cs ss = same_bad (with_clusters cs ss) ss (identities_blind cs ss)
 
 -- an advance or an offset of slot i
 pub measure_blind : (m : Measure) (a : Axis) (i : ℕ) → Blind (λ ss. measure m a (slot ss i))

@@ -1,9 +1,8 @@
 -- Cursive attachment neither looks at clusters nor writes them. Assumes nothing.
-use Rattle.std.specs.Prelude.{if◌then◌else◌}
+use Rattle.std.specs.Prelude.{None, Option, Some, if◌then◌else◌}
 use mathlib.Core.Bool.{Bool, true, false}
 use mathlib.Core.List.{List}
-use mathlib.Core.Option.{Option, some, none}
-use mathlib.Core.Path.{◌≡◌, refl, ap, ◌∙◌}
+use mathlib.Core.Path.{refl, ap, ◌∙◌}
 use Prim.Native.Nat.{ℕ, zero, suc}
 use lib.Dec.{eqb}
 use lib.IntN.{ℤ, pos, neg_ℤ}
@@ -11,8 +10,8 @@ use lib.ListN.{length}
 use Rattle.ints.specs.Saturating.{sat_sub, sat_neg, sat_add}
 use Rattle.slots.specs.Axis.{cross, main}
 use Rattle.slots.specs.Slot.{Slot}
-use Rattle.slots.specs.Line.{slot, update}
-use Rattle.slots.specs.Fields.{advance, attached, cursive_bit, offset, with_chain, with_cluster, with_measure}
+use Rattle.slots.specs.Line.{update}
+use Rattle.slots.specs.Fields.{advance, attached, cursive_bit, with_chain, with_cluster, with_measure}
 use Rattle.slots.specs.theorems.Clusters.{Blind, KeepsClusters, with_clusters}
 use Rattle.slots.specs.Parent.{by_parent, cleared, is_attached, parent}
 use Rattle.slots.specs.declared.axis.Axis.{Axis}
@@ -20,18 +19,14 @@ use Rattle.slots.specs.declared.axis.Axis.TheVariants.{X, Y}
 use Rattle.slots.specs.declared.axis.Direction.{Direction}
 use Rattle.slots.specs.declared.axis.Direction.TheVariants.{LeftToRight, RightToLeft, TopToBottom, BottomToTop}
 use Rattle.slots.specs.declared.fields.Measure.TheVariants.{Advance, Offset}
-use Rattle.theorems.proofs.ClusterLaws.{attached_blind, blind_as, blind_by, by_parent_keeps, chain_blind, cleared_keeps, glyph_blind, if_keeps, keeps_after, keeps_by, length_blind, measure_blind, measure_keeps, measure_sees, parent_blind, same_keeps, slot_after, slot_blind, slot_by, SlotKeeps, update_keeps}
-use Rattle.slots.proofs.LineLaws.{length_update}
+use Rattle.theorems.proofs.ClusterLaws.{attached_blind, blind_as, blind_by, by_parent_keeps, chain_blind, cleared_keeps, glyph_blind, if_keeps, keeps_after, keeps_by, length_blind, measure_blind, measure_keeps, measure_sees, parent_blind, same_keeps, slot_blind, SlotKeeps, update_keeps}
 use Rattle.tables.specs.Anchor.{Point}
-use Rattle.tables.specs.declared.coverage.Covered.{Covered}
-use Rattle.tables.specs.declared.coverage.Covered.TheVariants.{Index, Not}
 use Rattle.answers.specs.declared.Neighbour.{Neighbour}
 use Rattle.answers.specs.declared.Neighbour.TheVariants.{Named, Missing}
 use Rattle.ints.specs.Tally.{tally}
 use Rattle.ints.proofs.TallyLaws.{tally_same}
 use Rattle.chains.specs.Chains.{attached_count, chain_to, reach}
 use Rattle.chains.specs.Reversal.{reversed, reversed_in, turned}
-use Rattle.chains.proofs.ReversalLaws.{length_reversed}
 use Rattle.cursive.specs.CursivePos.{Plan, stop, join, entry_of, after_covered, after_entry, after_neighbour, after_previous, index_of, plan_of}
 use Rattle.cursive.specs.Attachment.{crossed, ended, child_attached, joined_at, planned, previous_joined, pulled, right_to_left, scaled_at, separated_by, this_joined, tied}
 use Rattle.ints.specs.Signed.{same_as}
@@ -45,13 +40,13 @@ module _ (t : List ℕ) (i : ℕ) where
 
   -- by the entry anchor
   entry_blind : (n : Neighbour) (e : Option Point) → Blind (λ ss. after_entry t ss i n e)
-  entry_blind n (some entry) = neighbour_blind n entry
-  entry_blind n none = λ cs ss. refl
+  entry_blind n (Some entry) = neighbour_blind n entry
+  entry_blind n None = λ cs ss. refl
 
   -- by the coverage
-  covered_blind : (n : Neighbour) (c : Covered) → Blind (λ ss. after_covered t ss i n c)
-  covered_blind n (Index k) = entry_blind n (entry_of t k)
-  covered_blind n Not = λ cs ss. refl
+  covered_blind : (n : Neighbour) (c : Option ℕ) → Blind (λ ss. after_covered t ss i n c)
+  covered_blind n (Some k) = entry_blind n (entry_of t k)
+  covered_blind n None = λ cs ss. refl
 
   -- the whole
   pub plan_blind : (previous : Neighbour) → Blind (λ ss. plan_of t ss i previous)
@@ -113,12 +108,12 @@ module _ (a : Axis) (p : ℕ) where
 module _ (a : Axis) (z : ℤ) where
   -- a glyph that ends at its anchor
   ended_keeps : SlotKeeps (ended a z)
-  ended_keeps = slot_by (offset a) (λ o. with_measure Advance a (sat_add z o)) (measure_sees Offset a) (λ o. measure_keeps Advance a (sat_add z o))
+  ended_keeps = keeps_by (measure_sees Offset a) (λ o. with_measure Advance a (sat_add z o)) (λ o. measure_keeps Advance a (sat_add z o))
 
   -- a glyph pulled back to its anchor
   pulled_keeps : SlotKeeps (pulled a z)
-  pulled_keeps = slot_by (offset a) (λ o s. put o (advance a s) s) (measure_sees Offset a) (λ o. slot_by (advance a) (put o) (measure_sees Advance a)
-      (λ v. slot_after (with_measure Advance a _) (with_measure Offset a _) (measure_keeps Advance a (sat_sub v (sat_add z o))) (measure_keeps Offset a (sat_sub o (sat_add z o)))))
+  pulled_keeps = keeps_by (measure_sees Offset a) (λ o s. put o (advance a s) s) (λ o. keeps_by (measure_sees Advance a) (put o)
+      (λ v. keeps_after (with_measure Advance a _) (with_measure Offset a _) (measure_keeps Advance a (sat_sub v (sat_add z o))) (measure_keeps Offset a (sat_sub o (sat_add z o)))))
     where
       put : ℤ → ℤ → Slot → Slot
       put o v s = with_measure Offset a (sat_sub o (sat_add z o)) (with_measure Advance a (sat_sub v (sat_add z o)) s)
@@ -146,9 +141,12 @@ attachment_keeps a child parent z = keeps_after (λ ss. reversed a ss child pare
 -- the parent separated
 separated_keeps : (a : Axis) (c : ℤ) (parent : ℕ) → KeepsClusters (separated_by a c parent)
 unfolding separated_by
-separated_keeps a c parent = keeps_by (blind_as (chain_blind parent) (λ z. same_as z (neg_ℤ c)))
-    (λ t ss. if t then update parent (λ s. with_chain (pos 0) (with_measure Offset a (pos 0) s)) ss else ss)
-    (if_keeps _ _ (update_keeps _ (λ n s. ap (with_chain (pos 0)) (measure_keeps Offset a (pos 0) n s)) parent) same_keeps)
+separated_keeps a c parent =
+    keeps_by (blind_as (chain_blind parent) (λ z. same_as z (neg_ℤ c))) (λ t ss. if t then update parent apart ss else ss)
+    (if_keeps (update parent apart) (λ ss. ss) (update_keeps apart (λ n s. ap (with_chain (pos 0)) (measure_keeps Offset a (pos 0) n s)) parent) same_keeps)
+  where
+    apart : Slot → Slot
+    apart s = with_chain (pos 0) (with_measure Offset a (pos 0) s)
 
 -- a child hung and the parent separated
 tied_keeps : (a : Axis) (child parent : ℕ) (z : ℤ) → KeepsClusters (tied a child parent z)
@@ -162,27 +160,6 @@ crossed_keeps : (a : Axis) (later : Bool) (i idx : ℕ) (exit entry : ℤ) → K
 crossed_keeps a true i idx exit entry = tied_keeps a i idx (sat_sub entry exit)
 crossed_keeps a false i idx exit entry = tied_keeps a idx i (sat_neg (sat_sub entry exit))
 
--- as many slots as before, the parent separated
-separated_length : (a : Axis) (c : ℤ) (parent : ℕ) (ss : List Slot) → length (separated_by a c parent ss) ≡ length ss
-unfolding separated_by
-separated_length a c parent ss = go (same_as (slot ss parent).chain (neg_ℤ c))
-  where
-    go : (t : Bool) → length (if t then update parent (λ s. with_chain (pos 0) (with_measure Offset a (pos 0) s)) ss else ss) ≡ length ss
-    go true = length_update parent _ ss
-    go false = refl
-
--- a child hung and the parent separated
-tied_length : (a : Axis) (child parent : ℕ) (z : ℤ) (ss : List Slot) → length (tied a child parent z ss) ≡ length ss
-unfolding tied
-tied_length a child parent z ss =
-    separated_length a (chain_to child parent) parent (child_attached a child parent z ss)
-    ∙ length_update child _ (reversed a ss child parent) ∙ length_reversed a ss child parent
-
--- by the flag
-crossed_length : (a : Axis) (later : Bool) (i idx : ℕ) (exit entry : ℤ) (ss : List Slot) → length (crossed a later i idx exit entry ss) ≡ length ss
-crossed_length a true i idx exit entry ss = tied_length a i idx (sat_sub entry exit) ss
-crossed_length a false i idx exit entry ss = tied_length a idx i (sat_neg (sat_sub entry exit)) ss
-
 -- ---- both
 module _ (s u : ℕ) (d : Direction) (flag i : ℕ) where
   -- two slots joined
@@ -195,22 +172,6 @@ module _ (s u : ℕ) (d : Direction) (flag i : ℕ) where
       (crossed_keeps (cross d) (right_to_left flag) j i (scaled_at s u (cross d) exit) (scaled_at s u (cross d) entry))
 
   -- by a plan
-  planned_keeps : (p : Plan) → KeepsClusters (planned s u d flag i p)
+  pub planned_keeps : (p : Plan) → KeepsClusters (planned s u d flag i p)
   planned_keeps (stop hazards) = same_keeps
   planned_keeps (join j exit entry) = joined_keeps j exit entry
-
-  -- by the plan of a slot
-  pub leaves_keeps : (t : List ℕ) (previous : Neighbour) → KeepsClusters (λ ss. planned s u d flag i (plan_of t ss i previous) ss)
-  leaves_keeps t previous = keeps_by (plan_blind t i previous) (planned s u d flag i) planned_keeps
-
-  -- as many as before
-  planned_length : (p : Plan) (ss : List Slot) → length (planned s u d flag i p ss) ≡ length ss
-  unfolding joined_at
-  planned_length (stop hazards) ss = refl
-  planned_length (join j exit entry) ss =
-      crossed_length (cross d) (right_to_left flag) j i (scaled_at s u (cross d) exit) (scaled_at s u (cross d) entry) (update i _ (update j _ ss))
-      ∙ length_update i _ (update j _ ss) ∙ length_update j _ ss
-
-  -- they are as many
-  pub leaves_length : (t : List ℕ) (previous : Neighbour) (ss : List Slot) → length (planned s u d flag i (plan_of t ss i previous) ss) ≡ length ss
-  leaves_length t previous ss = planned_length (plan_of t ss i previous) ss

@@ -1,29 +1,30 @@
 -- There and back, either way, changes no byte: the second move is done, and what it leaves is the line that the first one moved. Assumes nothing.
+use Rattle.std.specs.Prelude.{Ok, Result}
 use mathlib.Core.Path.{◌≡◌, refl, sym, ap, ◌∙◌, subst}
 use mathlib.Core.Bool.{Bool, false, not, ◌||◌}
 use mathlib.Core.List.{List, [], ◌∷◌, map}
-use Prim.Native.Nat.{ℕ, suc, ◌+◌, ◌*◌, ◌%◌, ◌≤◌}
+use Prim.Native.Nat.{ℕ, suc, ◌+◌, ◌*◌, ◌%◌, ◌≤◌, ◌<◌}
 use native.Mathlib.Omega.{arith}
+use borrow.Author.Rules.{rules}
 use borrow.Author.Tests.{eq-eqb, le-ltb, not-false}
 use lib.Dec.{eqb}
-use lib.ListN.{length}
+use lib.ListN.{length, replicate}
 use Rattle.ints.specs.BigEndian.{AllBytes}
 use Rattle.ints.proofs.TestLaws.{or_false}
 use Rattle.slots.specs.Checks.{bad_line, most_slots}
 use Rattle.slots.specs.Numbered.{is_numbered_from, numbered_from}
 use Rattle.slots.specs.theorems.Clusters.{plain_line, plain_n, with_clusters}
 use Rattle.slots.specs.Fields.{with_cluster}
-use Rattle.slots.specs.theorems.Storable.{AllStorable}
+use Rattle.slots.specs.theorems.Storable.{AllStorable, Storable}
 use Rattle.slots.specs.Line.{bytes, count, line_slots, shape_of}
 use Rattle.slots.specs.Slot.{clustered_size, Slot, slot_size}
 use Rattle.theorems.proofs.ClusterLaws.{numbered_with, range_blind, up_from}
 use Rattle.slots.proofs.LineLaws.{bytes_slots, count_bytes, length_bytes, length_slots, line_short, shapely, slots_bytes, slots_storable}
 use Rattle.moves.proofs.MoveLaws.{length_numbered, numbered_again, numbered_is}
-use Rattle.theorems.proofs.PlainLaws.{bytes_without, plain_bytes_lem, plain_good, plain_slots, zeros}
+use Rattle.theorems.proofs.PlainLaws.{bytes_without, plain_bytes_lem, plain_good, plain_slots}
 use Rattle.answers.specs.Outcome.{Call, line_after, Made}
 use Rattle.answers.specs.Said.{done, Said}
-use Rattle.answers.specs.declared.Moved.{Moved}
-use Rattle.answers.specs.declared.Moved.TheVariants.{Done as MovedNow}
+use Rattle.answers.specs.declared.WiderRefusal.{WiderRefusal}
 use Rattle.answers.proofs.SaidLaws.{said_moved_same}
 use Rattle.answers.proofs.TestLaws.{clear_first}
 use Rattle.checks.specs.Ranges.{bad_slots}
@@ -50,34 +51,23 @@ says_done : (z y : ℕ) (lost : Bool) (l t : List ℕ) → Fine z lost l → len
 says_done z y lost l t f e = rw (f.good, f.ranges, eq-eqb (length t) (count z l * y) e, f.kept)
 
 -- ---- numbered slots can be held by 28 bytes
+-- one slot, with its number for a cluster
+clustered : {k : ℕ} {s : Slot} → k < 4294967296 → Storable slot_size s → Storable clustered_size (with_cluster k s)
+clustered few h = search (rules, few, h)
+
 numbered_storable : (k : ℕ) (ss : List Slot) → AllStorable slot_size ss → k + length ss ≤ 4294967296 → AllStorable clustered_size (numbered_from k ss)
 unfolding AllStorable numbered_from
 numbered_storable k [] h n = tt
-numbered_storable k (s ∷ ss) h n = (
-  record {
-    glyph_fits = h.0.glyph_fits;
-    id_fits = h.0.id_fits;
-    component_fits = h.0.component_fits;
-    flags_fit = h.0.flags_fit;
-    type_fits = h.0.type_fits;
-    chain_fits = h.0.chain_fits;
-    x_advance_fits = h.0.x_advance_fits;
-    y_advance_fits = h.0.y_advance_fits;
-    x_offset_fits = h.0.x_offset_fits;
-    y_offset_fits = h.0.y_offset_fits;
-    cluster_fits = omega arith;
-  },
-  numbered_storable (suc k) ss h.1 (omega arith),
-)
+numbered_storable k (s ∷ ss) h n = (clustered (omega arith) h.0, numbered_storable (suc k) ss h.1 (omega arith))
 
 -- slots with cluster 0
-zeros_with : (ss : List Slot) → with_clusters (zeros (length ss)) ss ≡ map (with_cluster 0) ss
+zeros_with : (ss : List Slot) → with_clusters (replicate (length ss) 0) ss ≡ map (with_cluster 0) ss
 unfolding with_clusters
 zeros_with [] = refl
 zeros_with (s ∷ ss) = ap (λ (r : List Slot). with_cluster 0 s ∷ r) (zeros_with ss)
 
 -- ---- what the move to slots with a cluster leaves
-module _ (l t t' : List ℕ) (b : AllBytes l) (there : ToClustersCall l t MovedNow t') where
+module _ (l t t' : List ℕ) (b : AllBytes l) (there : ToClustersCall l t (Ok tt) t') where
   abbrev ss : List Slot
   ss = line_slots slot_size l
 
@@ -129,9 +119,9 @@ module _ (l t t' : List ℕ) (b : AllBytes l) (there : ToClustersCall l t MovedN
       same_without c apart t' r k q m b' moved_plain.0 o (subst (λ (x : List ℕ). Made c slot_size x q m) (sym moved_plain.1) p)
 
   -- and moving it back is done, and gives the same bytes
-  pub there_and_back : (u u' : List ℕ) (r : Moved) → length u ≡ length l → FromClustersCall t' u r u' → (r ≡ MovedNow) × (u' ≡ l)
+  pub there_and_back : (u u' : List ℕ) (r : Result (Unit {0}) WiderRefusal) → length u ≡ length l → FromClustersCall t' u r u' → (r ≡ Ok tt) × (u' ≡ l)
   there_and_back u u' r same back = (
-    said_moved_same r MovedNow (back.answer ∙ says),
+    said_moved_same r (Ok tt) (back.answer ∙ says),
     back.line ∙ ap (λ (s : Said). line_after slot_size s u (line_slots clustered_size t')) says ∙ ap (bytes slot_size) slots_are ∙ old_bytes,
   )
     where
@@ -149,9 +139,9 @@ module _ (l t t' : List ℕ) (b : AllBytes l) (there : ToClustersCall l t MovedN
       says = says_done clustered_size slot_size lost t' u back_fine (omega (arith, same, long, length_moved))
 
 -- ---- and the other way: to slots without one, and back
-module _ (l t t' u u' : List ℕ) (r : Moved) (b : AllBytes l) (same : length u ≡ length l) where
-  pub back_and_there : FromClustersCall l t MovedNow t' → ToClustersCall t' u r u' → (r ≡ MovedNow) × (u' ≡ l)
-  back_and_there back there = (said_moved_same r MovedNow (there.answer ∙ says), there.line ∙ ap (λ (s : Said). line_after clustered_size s u (numbered_from 0 (line_slots slot_size t'))) says ∙ bytes_are)
+module _ (l t t' u u' : List ℕ) (r : Result (Unit {0}) WiderRefusal) (b : AllBytes l) (same : length u ≡ length l) where
+  pub back_and_there : FromClustersCall l t (Ok tt) t' → ToClustersCall t' u r u' → (r ≡ Ok tt) × (u' ≡ l)
+  back_and_there back there = (said_moved_same r (Ok tt) (there.answer ∙ says), there.line ∙ ap (λ (s : Said). line_after clustered_size s u (numbered_from 0 (line_slots slot_size t'))) says ∙ bytes_are)
     where
       ss : List Slot
       ss = line_slots clustered_size l
@@ -178,7 +168,7 @@ module _ (l t t' u u' : List ℕ) (r : Moved) (b : AllBytes l) (same : length u 
           ∙ ap (plain_n (length ss)) own ∙ ap (λ (k : ℕ). plain_n k l) many
 
       slots_are : line_slots slot_size t' ≡ map (with_cluster 0) ss
-      slots_are = ap (line_slots slot_size) moved ∙ plain_slots l back_fine.good ∙ ap (λ (k : ℕ). with_clusters (zeros k) ss) (sym many) ∙ zeros_with ss
+      slots_are = ap (line_slots slot_size) moved ∙ plain_slots l back_fine.good ∙ ap (λ (k : ℕ). with_clusters (replicate k 0) ss) (sym many) ∙ zeros_with ss
 
       good : bad_line slot_size t' ≡ false
       good = ap (bad_line slot_size) moved ∙ plain_good l back_fine.good
@@ -189,7 +179,7 @@ module _ (l t t' u u' : List ℕ) (r : Moved) (b : AllBytes l) (same : length u 
           ∙ length_bytes slot_size refl ss ∙ ap (λ (k : ℕ). k * slot_size) many
 
       ranges : bad_slots (line_slots slot_size t') ≡ false
-      ranges = ap bad_slots (slots_are ∙ sym (zeros_with ss)) ∙ range_blind (zeros (length ss)) ss ∙ back_fine.ranges
+      ranges = ap bad_slots (slots_are ∙ sym (zeros_with ss)) ∙ range_blind (replicate (length ss) 0) ss ∙ back_fine.ranges
 
       says : move_said slot_size clustered_size false t' u ≡ done
       says = says_done slot_size clustered_size false t' u (record { good = good; ranges = ranges; kept = refl }) (omega (arith, same, long, length_moved))

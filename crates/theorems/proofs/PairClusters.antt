@@ -1,19 +1,14 @@
 -- Pair adjustment neither looks at clusters nor writes them. Assumes nothing.
-use Rattle.std.specs.Prelude.{if◌then◌else◌}
+use Rattle.std.specs.Prelude.{None, Option, Some, if◌then◌else◌}
 use mathlib.Core.List.{List}
-use mathlib.Core.Path.{◌≡◌, refl, ap₂, ◌∙◌}
+use mathlib.Core.Path.{refl, ap₂}
 use Prim.Native.Nat.{ℕ}
 use lib.Dec.{eqb}
-use lib.ListN.{length}
-use Rattle.slots.specs.Slot.{Slot}
 use Rattle.slots.specs.Line.{update}
 use Rattle.slots.specs.theorems.Clusters.{Blind, KeepsClusters}
 use Rattle.slots.specs.declared.axis.Direction.{Direction}
-use Rattle.theorems.proofs.ClusterLaws.{blind_as, blind_by, glyph_blind, keeps_after, keeps_by, same_keeps, update_keeps}
-use Rattle.slots.proofs.LineLaws.{length_update}
+use Rattle.theorems.proofs.ClusterLaws.{blind_as, blind_by, glyph_blind, keeps_after, same_keeps, update_keeps}
 use Rattle.tables.specs.Header.{pos_format}
-use Rattle.tables.specs.declared.coverage.Covered.{Covered}
-use Rattle.tables.specs.declared.coverage.Covered.TheVariants.{Index, Not}
 use Rattle.theorems.proofs.ValueClusters.{valued_keeps}
 use Rattle.answers.specs.declared.Neighbour.{Neighbour}
 use Rattle.answers.specs.declared.Neighbour.TheVariants.{Named, Missing}
@@ -35,9 +30,9 @@ module _ (t : List ℕ) (i : ℕ) where
   neighbour_blind k (Missing e) = λ cs ss. refl
 
   -- by the coverage
-  covered_blind : (n : Neighbour) (c : Covered) → Blind (λ ss. after_covered t ss i n c)
-  covered_blind n (Index k) = neighbour_blind k n
-  covered_blind n Not = λ cs ss. refl
+  covered_blind : (n : Neighbour) (c : Option ℕ) → Blind (λ ss. after_covered t ss i n c)
+  covered_blind n (Some k) = neighbour_blind k n
+  covered_blind n None = λ cs ss. refl
 
   -- the whole
   pub plan_blind : (second : Neighbour) → Blind (λ ss. plan_of t ss i second)
@@ -47,21 +42,8 @@ module _ (t : List ℕ) (i : ℕ) where
 -- ---- the slots that are left
 module _ (s u : ℕ) (d : Direction) (t : List ℕ) (i : ℕ) where
   -- by a plan
-  planned_keeps : (p : Plan) → KeepsClusters (planned s u d t i p)
+  pub planned_keeps : (p : Plan) → KeepsClusters (planned s u d t i p)
   planned_keeps (stop hazards) = same_keeps
   planned_keeps (adjust table at second) = keeps_after (update i _) (update second _)
       (update_keeps _ (valued_keeps s u d (first_record t table at) (value_format1 t)) i)
       (update_keeps _ (valued_keeps s u d (second_record t table at) (value_format2 t)) second)
-
-  -- as many as before
-  planned_length : (p : Plan) (ss : List Slot) → length (planned s u d t i p ss) ≡ length ss
-  planned_length (stop hazards) ss = refl
-  planned_length (adjust table at second) ss = length_update second _ (update i _ ss) ∙ length_update i _ ss
-
-  -- by the plan of a pair
-  pub leaves_keeps : (second : Neighbour) → KeepsClusters (λ ss. planned s u d t i (plan_of t ss i second) ss)
-  leaves_keeps second = keeps_by (plan_blind t i second) (planned s u d t i) planned_keeps
-
-  -- they are as many
-  pub leaves_length : (second : Neighbour) (ss : List Slot) → length (planned s u d t i (plan_of t ss i second) ss) ≡ length ss
-  leaves_length second ss = planned_length (plan_of t ss i second) ss

@@ -6,7 +6,7 @@ use Prim.Native.Nat.{ℕ, zero, suc, ◌-◌, ◌*◌, ◌%◌, ◌^◌, ◌<◌
 use native.Mathlib.Omega.{arith}
 use native.Mathlib.Nat.{suc-mul, zero-mul}
 use borrow.Author.Tests.{eq-eqb, le-ltb}
-use lib.ListN.{length, take, drop, length-append, length-drop}
+use lib.ListN.{length, replicate, take, drop, length-append, length-drop}
 use lib.Seq.{take_at, drop_at, length-take-le}
 use Rattle.ints.specs.BigEndian.{digits, nat_at}
 use Rattle.ints.specs.Signed.{int_at}
@@ -63,13 +63,8 @@ plain_bytes_lem (s ∷ ss) =
     ap₂ ◌++◌ (take_plain s (bytes clustered_size ss))
     (ap (plain_n (length ss)) (drop_at (bytes_of clustered_size s) (bytes clustered_size ss) clustered_size (length_bytes_of clustered_size refl s)) ∙ plain_bytes_lem ss)
 
--- so many zeros
-abbrev pub zeros : ℕ → List ℕ
-zeros zero = []
-zeros (suc n) = 0 ∷ zeros n
-
 -- the slots of the old bytes are the slots, all with cluster 0
-pub slots_plain : (n : ℕ) (l : List ℕ) → n * clustered_size ≤ length l → slots_n slot_size n (plain_n n l) ≡ with_clusters (zeros n) (slots_n clustered_size n l)
+pub slots_plain : (n : ℕ) (l : List ℕ) → n * clustered_size ≤ length l → slots_n slot_size n (plain_n n l) ≡ with_clusters (replicate n 0) (slots_n clustered_size n l)
 unfolding slots_n plain_n with_clusters
 slots_plain zero l h = refl
 slots_plain (suc n) l h =
@@ -125,7 +120,7 @@ module _ (l : List ℕ) (good : bad_line clustered_size l ≡ false) where
       rw (eq-eqb (length (plain_line l) % slot_size) 0 none, le-ltb (most_slots * slot_size) (length (plain_line l)) (omega (arith, length_line, few)))
 
   -- and have its slots, all with cluster 0
-  pub plain_slots : line_slots slot_size (plain_line l) ≡ with_clusters (zeros many) (line_slots clustered_size l)
+  pub plain_slots : line_slots slot_size (plain_line l) ≡ with_clusters (replicate many 0) (line_slots clustered_size l)
   unfolding slots
   plain_slots =
       let same : count slot_size (plain_line l) ≡ many = omega (arith, length_line) in

@@ -1,33 +1,28 @@
 -- Running a lookup: it comes to its end, its records have room in the list, more steps would change nothing, and over one slot, with one subtable, it is the single call. Assumes nothing.
-use Rattle.std.specs.Prelude.{if◌then◌else◌}
+use Rattle.std.specs.Prelude.{Result, Some, if◌then◌else◌}
 use mathlib.Core.Path.{◌≡◌, refl, sym, ap, ap₂, subst, ◌∙◌}
-use mathlib.Core.Bool.{Bool, true, false, not, ◌||◌}
+use mathlib.Core.Bool.{Bool, true, false, ◌||◌}
 use mathlib.Core.List.{List, [], ◌∷◌, ◌++◌, append-nil, map}
-use mathlib.Core.Option.{some}
 use Prim.Native.Nat.{ℕ, zero, suc, ◌+◌, ◌*◌, ◌≤◌, ◌<◌}
 use native.Mathlib.Nat.{mul_assoc, mul-le-mul_right}
 use native.Mathlib.Omega.{arith}
 use borrow.Author.Tests.{le-ltb, ltb-true}
-use lib.Dec.{leb, ltb}
+use lib.Dec.{ltb}
 use lib.ListN.{drop, get_or, length, length-append, length-drop, length-map}
 use lib.Seq.{take_all}
 use Rattle.slots.specs.Axis.{direction_of}
-use Rattle.slots.specs.Checks.{bad_line}
 use Rattle.slots.specs.Line.{count, line_slots, shape_of}
 use Rattle.slots.specs.Slot.{Slot}
-use Rattle.slots.proofs.LineLaws.{count_bytes, known_size, length_slots}
-use Rattle.answers.specs.Outcome.{answer_to, Call, line_after, Made}
-use Rattle.answers.specs.Said.{applied, declined, done, hazards_of, Range, refused, Said, unless}
+use Rattle.slots.proofs.LineLaws.{count_bytes, length_slots}
+use Rattle.answers.specs.Outcome.{answer_to, Call, Made}
+use Rattle.answers.specs.Said.{applied, declined, done, hazards_of, Range, refused, Said}
 use Rattle.answers.specs.declared.Ran.{Ran}
-use Rattle.answers.proofs.TestLaws.{of_unless}
+use Rattle.answers.specs.declared.WiderRefusal.{WiderRefusal}
+use Rattle.answers.specs.theorems.Hazards.{FewHazards}
 use Rattle.records.specs.Records.{record_of}
 use Rattle.records.specs.declared.HazardRecord.{HazardRecord}
-use Rattle.checks.specs.Arguments.{applying_tests}
-use Rattle.checks.specs.Neighbours.{bad_previous, bad_second}
-use Rattle.single.specs.SinglePos.{single_good}
-use Rattle.pair.specs.PairPos.{pair_good}
-use Rattle.cursive.specs.CursivePos.{cursive_good}
-use Rattle.targets.specs.MarkPos.{marks_good}
+use Rattle.targets.specs.declared.mark_pos.Target.TheVariants.{Base, Ligature}
+use Rattle.targets.specs.declared.place.Way.TheVariants.{Search, Earlier}
 use Rattle.lookup.specs.Kinds.{kind_of}
 use Rattle.lookup.specs.Neighbours.{neighbour_for, previous, second}
 use Rattle.lookup.specs.Refusals.{verdict}
@@ -37,12 +32,14 @@ use Rattle.lookup.specs.declared.kinds.Kind.{Kind}
 use Rattle.lookup.specs.declared.kinds.Kind.TheVariants.{Single, Pair, Cursive, MarkBase, MarkLigature, MarkMark}
 use Rattle.lookup.specs.declared.state.Settings.{Settings}
 use Rattle.lookup.proofs.BeginningLaws.{is_fit, verdict_kind}
-use Rattle.lookup.proofs.FairLaws.{fair, Fair}
 use Rattle.lookup.proofs.IdentityLaws.{same_length}
 use Rattle.lookup.proofs.TurnLaws.{call_kept}
-use Rattle.gpos.specs.Running.{after, at_end, before, call_at, comes_to, goes_on, line_on, LookupCall, place, Place, Run, run, run_for, run_in, run_line, run_list, run_said, said_at, said_on, Stage, standing, stopped_at}
+use Rattle.gpos.specs.Running.{after, at_end, before, call_at, call_on, comes_to, goes_on, line_on, LookupCall, place, Place, Run, run, run_for, run_in, run_line, run_list, run_said, said_at, said_on, Stage, standing, stopped_at}
+use Rattle.gpos.proofs.PassLaws.{run_ended, run_stopped}
 use Rattle.gpos.proofs.RunCallLaws.{core_leaves}
 use Rattle.gpos.proofs.RunLaws.{length_subtables}
+use Rattle.theorems.proofs.Answers.{cursive_fair, Fair, mark_fair, pair_fair, single_fair}
+use Rattle.theorems.proofs.Clusters.{of_line}
 use Rattle.theorems.specs.Running.{end_after, IsCall, LeftAsCall, Over}
 
 -- a lookup of this kind, with these subtables
@@ -64,50 +61,28 @@ module _ (kind : Kind) (g : Settings) (ts : List (List ℕ)) where
         ∙ length_slots (shape_of g.size l) l
 
     count_kept : count g.size (line_on kind g ts l p) ≡ count g.size l
-    count_kept = go (bad_line g.size l) refl
+    count_kept =
+        of_line (λ (m : List ℕ). count g.size m ≡ count g.size l) (call_on kind g ts l p) g.size l refl
+        (λ k. count_bytes g.size k ((call_on kind g ts l p).leaves ss) ∙ as_many)
+
+    -- it has few hazards, and goes on ahead
+    call_fair : Fair p.index (count g.size l) (said_on kind g ts l p)
+    call_fair = subst (λ (n : ℕ). Fair p.index n (said_on kind g ts l p)) (length_slots (shape_of g.size l) l) (go kind)
       where
-        new : List Slot
-        new = (call_at kind g T ss p.index).leaves ss
+        go : (k : Kind) → Fair p.index (length ss) (said_on k g ts l p)
+        go Single = single_fair g.size l T g.direction g.s g.u p.index
+        go Pair = pair_fair g.size l T g.direction g.s g.u p.index (second ss p.index)
+        go Cursive = cursive_fair g.size l T g.direction g.s g.u p.index (previous ss p.index) g.flag
+        go MarkBase = mark_fair g.size l T g.direction g.s g.u p.index (Search Base)
+        go MarkLigature = mark_fair g.size l T g.direction g.s g.u p.index (Search Ligature)
+        go MarkMark = mark_fair g.size l T g.direction g.s g.u p.index (Earlier (previous ss p.index))
 
-        by_said : bad_line g.size l ≡ false → (s : Said) → count g.size (line_after g.size s l new) ≡ count g.size l
-        by_said e (applied n hs a) = count_bytes g.size (known_size g.size l e) new ∙ as_many
-        by_said e done = count_bytes g.size (known_size g.size l e) new ∙ as_many
-        by_said e (declined hs) = refl
-        by_said e (refused n) = refl
-
-        go : (bad : Bool) → bad_line g.size l ≡ bad → count g.size (line_after g.size (unless ((bad, 1) ∷ []) ((call_at kind g T ss p.index).says ss)) l new) ≡ count g.size l
-        go true e = refl
-        go false e = by_said e ((call_at kind g T ss p.index).says ss)
-
-    -- it has at most two hazards, and goes on ahead, whether its tests refuse or not
-    module _ (in_line : p.index < count g.size l) where
-      abbrev Here : Said → Type 0
-      Here = Fair p.index (length ss)
-
-      abbrev core : Kind → Said
-      core k = (call_for k T (direction_of g.direction) g.s g.u g.flag p.index (neighbour_for k ss p.index)).says ss
-
-      core_fair : (k : Kind) → Here (core k)
-      core_fair k = fair T (direction_of g.direction) g.s g.u g.flag p.index ss (omega (arith, length_slots (shape_of g.size l) l)) k
-
-      refuses : (n : ℕ) → Here (refused n)
-      refuses n = (omega arith, tt)
-
-      tested : (bad_index bad_subtable : Bool) (k : Kind) → Here (unless (applying_tests ss g.direction g.s g.u bad_index bad_subtable) (core k))
-      tested bad_index bad_subtable k = of_unless Here refuses (applying_tests ss g.direction g.s g.u bad_index bad_subtable) (core k) (λ _. core_fair k)
-
-      slots_fair : (k : Kind) → Here ((call_at k g T ss p.index).says ss)
-      slots_fair Single = tested (leb (length ss) p.index) (not (single_good T)) Single
-      slots_fair Pair = tested (bad_second (length ss) p.index (second ss p.index)) (not (pair_good T)) Pair
-      slots_fair Cursive = tested (bad_previous (length ss) p.index (previous ss p.index)) (not (cursive_good T)) Cursive
-      slots_fair MarkBase = tested (leb (length ss) p.index) (not (marks_good T)) MarkBase
-      slots_fair MarkLigature = tested (leb (length ss) p.index) (not (marks_good T)) MarkLigature
-      slots_fair MarkMark = tested (bad_previous (length ss) p.index (previous ss p.index)) (not (marks_good T)) MarkMark
-
-      call_fair : Fair p.index (count g.size l) (said_on kind g ts l p)
-      call_fair =
-          subst (λ (n : ℕ). Fair p.index n (said_on kind g ts l p)) (length_slots (shape_of g.size l) l)
-          (of_unless Here refuses ((bad_line g.size l, 1) ∷ []) ((call_at kind g T ss p.index).says ss) (λ _. slots_fair kind))
+-- so a call has at most two hazards
+at_most_two : (s : Said) → FewHazards s → length (hazards_of s) ≤ 2
+at_most_two (applied n hs a) few = few
+at_most_two (declined hs) few = omega arith
+at_most_two (refused n) few = omega arith
+at_most_two done few = omega arith
 
 -- ---- the steps that are left
 -- f steps are enough for a run over n slots, with c subtables, that stands so: at slot i, subtable k, n * c - (i * c + k)
@@ -145,20 +120,18 @@ module _ (kind : Kind) (g : Settings) (ts : List (List ℕ)) where
   ends zero l (stopped_at i) h = (tt, omega arith)
   ends (suc f) l (goes_on p) h =
       let said = said_on kind g ts l p in
-      let fair = call_fair kind g ts l p h.0 in
+      let fair = call_fair kind g ts l p in
       let rest = ends f (line_on kind g ts l p) (after (count g.size l) (length ts) p said)
       (subst (λ (n : ℕ). Enough f n (length ts) (after (count g.size l) (length ts) p said)) (sym (count_kept kind g ts l p)) (after_enough f (count g.size l) (length ts) p said fair h)) in
-      (rest.0, omega (arith, fair.0, rest.1, length-append (hazards_of said) (run_in kind g ts f (line_on kind g ts l p) (after (count g.size l) (length ts) p said)).found))
+      (rest.0, omega (arith, at_most_two said fair.0, rest.1, length-append (hazards_of said) (run_in kind g ts f (line_on kind g ts l p) (after (count g.size l) (length ts) p said)).found))
   ends (suc f) l (at_end a) h = (tt, omega arith)
   ends (suc f) l (stopped_at i) h = (tt, omega arith)
 
   -- a run that stands stays, whatever steps are left
   stays : (n : ℕ) (l : List ℕ) (st : Stage) → Over st → run_in kind g ts n l st ≡ standing l st
-  unfolding run_in
-  stays zero l st h = refl
-  stays (suc n) l (goes_on p) h = absurd h
-  stays (suc n) l (at_end a) h = refl
-  stays (suc n) l (stopped_at i) h = refl
+  stays n l (goes_on p) h = absurd h
+  stays n l (at_end a) h = run_ended kind g ts n l a
+  stays n l (stopped_at i) h = run_stopped kind g ts n l i
 
   -- More steps change nothing: once a run has ended within n steps, it is the same with k more.
   pub done_after : (n k : ℕ) (l : List ℕ) (st : Stage) → Over (run_in kind g ts n l st).last → run_in kind g ts (n + k) l st ≡ run_in kind g ts n l st
@@ -202,7 +175,7 @@ module _ (g : Settings) (l b lengths : List ℕ) (places : ℕ) (fit : verdict g
       (omega (arith, c, doubled, whole_ends.1), omega (arith, c, doubled, whole_ends.1, (is_fit g l b lengths places fit).room))
 
 -- A run leaves the list as long as it was, be it refused or not.
-pub list_length : (g : Settings) (l b lengths : List ℕ) (list : List HazardRecord) (r : Ran) (l' : List ℕ) (list' : List HazardRecord)
+pub list_length : (g : Settings) (l b lengths : List ℕ) (list : List HazardRecord) (r : Result Ran WiderRefusal) (l' : List ℕ) (list' : List HazardRecord)
     → LookupCall g l b lengths list r l' list' → length list' ≡ length list
 list_length g l b lengths list r l' list' o = ap length o.list_is ∙ go (verdict g l b lengths (length list)) refl
   where
@@ -235,7 +208,7 @@ module _ (g : Settings) (t l : List ℕ) (kind : Kind) (only : count g.size l �
   unfolding run_in
   one_run =
       let p = place 0 0 false in
-      let fair : Fair 0 1 (answer_to call g.size l) = subst (λ (n : ℕ). Fair 0 n (answer_to call g.size l)) only (call_fair kind g (t ∷ []) l p (omega arith)) in
+      let fair : Fair 0 1 (answer_to call g.size l) = subst (λ (n : ℕ). Fair 0 n (answer_to call g.size l)) only (call_fair kind g (t ∷ []) l p) in
       let whole : run kind g (t ∷ []) l ≡ run_in kind g (t ∷ []) 1 l (goes_on p) = ap (λ (n : ℕ). run_in kind g (t ∷ []) (n * 1) l (comes_to n 0 false)) only in
       record {
         found_is = ap (λ (r : Run). r.found) whole ∙ append-nil (hazards_of (answer_to call g.size l));
@@ -243,7 +216,7 @@ module _ (g : Settings) (t l : List ℕ) (kind : Kind) (only : count g.size l �
         last_is = ap (λ (r : Run). r.last) whole ∙ ap (λ (n : ℕ). after n 1 p (answer_to call g.size l)) only ∙ one_after (answer_to call g.size l) fair;
       }
 
-  module _ (is : kind_of g.kind ≡ some kind) where
+  module _ (is : kind_of g.kind ≡ Some kind) where
     -- A run of one subtable over a line of one slot is the single call: its hazards, its line, and its end by what it said.
     pub one_slot : IsCall call g.size l (run_for (kind_of g.kind) g (subtables (length t ∷ []) t) l)
     unfolding subtables
@@ -252,7 +225,7 @@ module _ (g : Settings) (t l : List ℕ) (kind : Kind) (only : count g.size l �
     -- So what a caller sees of the run is what a caller sees of the call: whatever meets the contract of the one agrees
     -- with whatever meets that of the other.
     pub one_slot_call : (list : List HazardRecord) → verdict g l t (length t ∷ []) (length list) ≡ done → (said : Said) (m' : List ℕ) → Made call g.size l said m'
-        → (r : Ran) (l' : List ℕ) (list' : List HazardRecord) → LookupCall g l t (length t ∷ []) list r l' list' → LeftAsCall said m' list r l' list'
+        → (r : Result Ran WiderRefusal) (l' : List ℕ) (list' : List HazardRecord) → LookupCall g l t (length t ∷ []) list r l' list' → LeftAsCall said m' list r l' list'
     one_slot_call list fit said m' made r l' list' o =
         let whole : Run = run_for (kind_of g.kind) g (subtables (length t ∷ []) t) l in
         let found : whole.found ≡ hazards_of said = one_slot.found_is ∙ ap hazards_of (sym made.answer) in

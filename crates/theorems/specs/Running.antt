@@ -1,9 +1,10 @@
 -- What the theorems on running a lookup speak of. Assumes nothing.
-use Rattle.std.specs.Prelude.{false, List, ◌++◌, map, ◌≡◌, ℕ, drop, length}
+use Rattle.std.specs.Prelude.{Result, false, List, ◌++◌, map, ◌≡◌, ℕ, drop, length}
 use Rattle.slots.specs.Line.{line_slots}
 use Rattle.answers.specs.Outcome.{answer_to, Call, line_after}
 use Rattle.answers.specs.Said.{applied, declined, done, hazards_of, refused, Said, said_run}
 use Rattle.answers.specs.declared.Ran.{Ran}
+use Rattle.answers.specs.declared.WiderRefusal.{WiderRefusal}
 use Rattle.records.specs.Records.{record_of}
 use Rattle.records.specs.declared.HazardRecord.{HazardRecord}
 use Rattle.gpos.specs.Running.{at_end, goes_on, Run, said_at, Stage, stopped_at}
@@ -30,7 +31,7 @@ pub record IsCall (c : Call) (z : ℕ) (l : List ℕ) (r : Run) : Type 0 where
 
 -- a run that answered r and left the line l' and, of the list that was lent, list', left what a single call did that
 -- said `said` and left the line m'
-pub record LeftAsCall (said : Said) (m' : List ℕ) (list : List HazardRecord) (r : Ran) (l' : List ℕ)
+pub record LeftAsCall (said : Said) (m' : List ℕ) (list : List HazardRecord) (r : Result Ran WiderRefusal) (l' : List ℕ)
     (list' : List HazardRecord) : Type 0 where
   pub answer : said_run r ≡ said_at (end_after said) (length (hazards_of said))
   pub line : l' ≡ m'
