@@ -1,10 +1,8 @@
 -- What is printed, and what that leaves in a writer whose bytes are known. Assumes nothing.
-use Rattle.std.specs.Prelude.{List, [], ◌∷◌, ◌++◌, ℕ, ℤ, codes, decimal}
+use Rattle.std.specs.Prelude.{List, [], ◌∷◌, ◌++◌, ℕ, ℤ, codes, decimal, Result, Ok, Err}
 use Rattle.std.specs.Io.KnownBytes.{Appends}
 use Rattle.std.specs.declared.option.Option.{Option}
 use Rattle.answers.specs.Said.{refusal_number}
-use Rattle.answers.specs.declared.Done.{Done}
-use Rattle.answers.specs.declared.Done.TheVariants.{Done as DoneNow, Refused}
 use Rattle.answers.specs.declared.Refusal.{Refusal}
 use Rattle.slots.specs.Slot.{Slot}
 use Rattle.show.specs.Text.{Spelled, Row}
@@ -22,6 +20,6 @@ abbrev pub refused_line : Refusal → List ℕ
 refused_line r = codes "refused " ++ (decimal (refusal_number r) ++ (10 ∷ []))
 
 -- the line of what starting or finishing answered
-abbrev pub done_line : Done → List ℕ
-done_line DoneNow = codes "done" ++ (10 ∷ [])
-done_line (Refused r) = refused_line r
+abbrev pub done_line : Result (Unit {0}) Refusal → List ℕ
+done_line (Ok _) = codes "done" ++ (10 ∷ [])
+done_line (Err r) = refused_line r

@@ -8,10 +8,10 @@ ghost use Rattle.slots.specs.code.Shape.{Inside};
 ghost use Rattle.slots.specs.Line.{slot, slots};
 ghost use Rattle.show.specs.Printed.{AppendsNumber, AppendsRow, done_line, refused_line};
 
-use crate::numbers::{MOST_TEXT, spell};
-use crate::rows::{MOST_ROW, row};
-use answers::{Done, Refusal};
+use answers::Refusal;
 use ints::big_endian::Signed;
+use slots::axis::Axis;
+use slots::fields::{Measure, get};
 use slots::shape::Shape;
 use std::io;
 use std::io::Write;
@@ -32,9 +32,7 @@ pub fn natural<W: Write>(out: &mut W, n: u64) -> io::Result<()>
 pub fn integer<W: Write>(out: &mut W, v: Signed) -> io::Result<()>
     ensures { OnOk result (AppendsNumber (val v) (W.contents out.old) (W.contents out.new)) }
 {
-    let mut space = [0u8; MOST_TEXT];
-    let n = spell(v, &mut space);
-    text(out, &space[..n])
+    write!(out, "{}", v.cast_signed())
 }
 
 // A slot's number, advances and offsets, as a line.
@@ -42,25 +40,27 @@ pub fn slot<W: Write>(out: &mut W, line: &[u8], shape: Shape, i: usize) -> io::R
     requires { Inside shape line.now i × (i < half32) }
     ensures { OnOk result (AppendsRow i (slot (slots shape line.now) i) (W.contents out.old) (W.contents out.new)) }
 {
-    let mut space = [0u8; MOST_ROW];
-    let n = row(line, shape, i, &mut space);
-    text(out, &space[..n])
+    let x = get(line, shape, i, Measure::Advance, Axis::X).cast_signed();
+    let y = get(line, shape, i, Measure::Advance, Axis::Y).cast_signed();
+    let to_x = get(line, shape, i, Measure::Offset, Axis::X).cast_signed();
+    let to_y = get(line, shape, i, Measure::Offset, Axis::Y).cast_signed();
+    writeln!(out, "{i} {x} {y} {to_x} {to_y}")
 }
 
 // A refusal, with its number, as a line.
 pub fn refused<W: Write>(out: &mut W, r: Refusal) -> io::Result<()>
     ensures { OnOk result (Appends (W.contents out.old) (W.contents out.new) (refused_line r)) }
 {
-    let n = answers::refusal_number(r);
+    let n = u32::from(r);
     writeln!(out, "refused {n}")
 }
 
 // What starting or finishing answered, as a line.
-pub fn done<W: Write>(out: &mut W, d: Done) -> io::Result<()>
+pub fn done<W: Write>(out: &mut W, d: Result<(), Refusal>) -> io::Result<()>
     ensures { OnOk result (Appends (W.contents out.old) (W.contents out.new) (done_line d)) }
 {
     match d {
-        Done::Done => text(out, b"done\n"),
-        Done::Refused(r) => refused(out, r),
+        Ok(()) => text(out, b"done\n"),
+        Err(r) => refused(out, r),
     }
 }
