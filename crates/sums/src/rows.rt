@@ -2,10 +2,8 @@
 ghost use Rattle.std.specs.Prelude.{◌≤◌, length};
 ghost use Rattle.slots.specs.Slot.{clustered_size, slot_size};
 
-use crate::printing::print;
-use ints::big_endian::{read_i16, read_i32, wide};
-use recorded::kinds::{FROM_CLUSTERS, TO_CLUSTERS};
-use recorded::{Numbers, has_target};
+use ints::big_endian::{read_i16, read_i32};
+use recorded::{Kind, Numbers, after_length, has_target};
 use slots::layout::{
     ATTACH_TYPE, CHAIN, CLUSTER, CLUSTERED_SIZE, SLOT_SIZE, X_ADVANCE, X_OFFSET, Y_ADVANCE,
     Y_OFFSET,
@@ -14,28 +12,23 @@ use std::io;
 use std::io::Write;
 
 // Slot i, whose bytes these are.
-fn show_slot<W: Write>(out: &mut W, i: u32, slot: &[u8]) -> io::Result<()>
+fn show_slot<W: Write>(out: &mut W, i: usize, slot: &[u8]) -> io::Result<()>
     requires { slot_size ≤ length slot.now }
 {
-    let numbers = [
-        i,
-        read_i32(slot, X_ADVANCE),
-        read_i32(slot, Y_ADVANCE),
-        read_i32(slot, X_OFFSET),
-        read_i32(slot, Y_OFFSET),
-        wide(slot[ATTACH_TYPE]),
-        read_i16(slot, CHAIN),
-    ];
-    print(
+    let x = read_i32(slot, X_ADVANCE).cast_signed();
+    let y = read_i32(slot, Y_ADVANCE).cast_signed();
+    let to_x = read_i32(slot, X_OFFSET).cast_signed();
+    let to_y = read_i32(slot, Y_OFFSET).cast_signed();
+    let kind = slot[ATTACH_TYPE];
+    let chain = read_i16(slot, CHAIN).cast_signed();
+    write!(
         out,
-        b"  slot #: advance # #, offset # #, type #, chain #",
-        numbers,
+        "  slot {i}: advance {x} {y}, offset {to_x} {to_y}, type {kind}, chain {chain}"
     )?;
     if slot.len() == CLUSTERED_SIZE {
-        show::text(out, b", cluster ")?;
-        show::natural(out, read_i32(slot, CLUSTER) as u64)?;
+        write!(out, ", cluster {}", read_i32(slot, CLUSTER))?;
     }
-    show::text(out, b"\n")
+    writeln!(out)
 }
 
 // The slots of a line, where it has at most four.
@@ -45,47 +38,23 @@ fn show_slots<W: Write>(out: &mut W, line: &[u8], size: usize) -> io::Result<()>
     if 4 * size < line.len() {
         return Ok(());
     }
-    let mut i = 0;
-    let mut at = 0;
-    while at + size <= line.len() {
-        let end = at + size;
-        show_slot(out, i, &line[at..end])?;
-        i += 1;
-        at = end;
+    for (i, slot) in line.chunks_exact(size).enumerate() {
+        show_slot(out, i, slot)?;
     }
     Ok(())
 }
 
-// The size that a call names; a call that names another is refused.
-fn named_size(size: usize) -> usize
-    ensures { (slot_size ≤ result) × (result ≤ clustered_size) }
-{
-    if size == CLUSTERED_SIZE {
-        return CLUSTERED_SIZE;
-    }
-    SLOT_SIZE
-}
-
-// The size of the slots that a call writes: each move has one, and any other call names it.
+// The size of the slots that a call writes: each move has one, and any other call names it. One that names no size is
+// refused.
 fn written_size(n: Numbers) -> usize
     ensures { (slot_size ≤ result) × (result ≤ clustered_size) }
 {
-    let kind = n.kind;
-    match kind {
-        TO_CLUSTERS => CLUSTERED_SIZE,
-        FROM_CLUSTERS => SLOT_SIZE,
-        _ => named_size(n.size),
+    match (n.kind, n.size) {
+        (Kind::ToClusters, _) => CLUSTERED_SIZE,
+        (Kind::FromClusters, _) => SLOT_SIZE,
+        (_, CLUSTERED_SIZE) => CLUSTERED_SIZE,
+        _ => SLOT_SIZE,
     }
-}
-
-// The slots of the first n bytes.
-fn show_part<W: Write>(out: &mut W, bytes: &[u8], n: usize, size: usize) -> io::Result<()>
-    requires { (slot_size ≤ size) × (size ≤ clustered_size) }
-{
-    if n <= bytes.len() {
-        return show_slots(out, &bytes[..n], size);
-    }
-    Ok(())
 }
 
 // The slots that a call left, in the line or in the target of a move.
@@ -95,9 +64,9 @@ pub fn show_after<W: Write>(
     line: &[u8],
     subtable: &[u8],
 ) -> io::Result<()> {
-    let size = written_size(n);
-    if has_target(n) {
-        return show_part(out, subtable, n.subtable, size);
+    let bytes = if has_target(n) { subtable } else { line };
+    match bytes.get(..after_length(n)) {
+        Some(written) => show_slots(out, written, written_size(n)),
+        None => Ok(()),
     }
-    show_part(out, line, n.line, size)
 }
