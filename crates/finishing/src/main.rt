@@ -5,53 +5,49 @@
 
 mod usage; // what it says of itself
 
-ghost use Rattle.ints.specs.Limits.{half32};
-ghost use Rattle.slots.specs.code.Shape.{Fits};
-ghost use Rattle.slots.specs.Line.{shape_with};
-ghost use Rattle.std.specs.Prelude.{◌≤◌};
-
-use answers::Done;
-use slots::shape::{Cut, Shape, cut_of};
+use slots::layout::SLOT_SIZE;
+use slots::shape::{Shape, cut_of};
 use std::alloc::Global;
 use std::env::{Env, FillError};
 use std::io;
-use std::io::{Read, Write};
+use std::io::{BufWriter, Read, Write};
 
 // Above the longest line's 24,576 bytes.
 const MOST_READ: u64 = 65536;
 
-// The n slots, a line each.
-fn show_slots<W: Write>(out: &mut W, line: &[u8], n: usize) -> io::Result<()>
-    requires { Fits (shape_with 24 n) line.now × (n ≤ half32) }
-{
-    let shape = Shape { size: 24, count: n };
-    for i in 0..n {
+// A finished line: it is cut again as finishing cut it, which says how many slots there are.
+fn show_line<W: Write>(out: &mut W, line: &[u8]) -> io::Result<()> {
+    let Some(count) = cut_of(line, SLOT_SIZE) else {
+        return Ok(());
+    };
+    let shape = Shape {
+        size: SLOT_SIZE,
+        count,
+    };
+    for i in 0..count {
         show::slot(out, line, shape, i)?;
     }
     Ok(())
 }
 
-// A finished line: it is cut again as finishing cut it, which says how many slots there are.
-fn show_line<W: Write>(out: &mut W, line: &[u8]) -> io::Result<()> {
-    let cut = cut_of(line, 24);
-    let Cut::Slots(n) = cut else {
-        return Ok(());
-    };
-    show_slots(out, line, n)
-}
-
 fn finish<W: Write>(out: &mut W, line: &mut [u8]) -> io::Result<()> {
-    let answer = gpos::finish(line, 24, 0, 64, true);
-    match answer {
-        Done::Done => show_line(out, line),
-        Done::Refused(r) => show::refused(out, r),
+    match gpos::finish(line, SLOT_SIZE, 0, 64, true) {
+        Ok(()) => show_line(out, line),
+        Err(refusal) => show::refused(out, refusal),
     }
 }
 
-fn finish_input<R: Read + Drop, W: Write>(alloc: Global, input: R, out: &mut W) -> io::Result<()> {
+// The rows go out together: `write!` gives a writer each number on its own.
+fn finish_input<R: Read + Drop, W: Write + Drop>(
+    alloc: Global,
+    input: R,
+    out: W,
+) -> io::Result<()> {
     let mut line = Vec::new(alloc);
     input.take(MOST_READ).read_to_end(&mut line)?;
-    finish(out, &mut line)
+    let mut out = BufWriter::new(alloc, out)?;
+    finish(&mut out, &mut line)?;
+    out.flush()
 }
 
 // Whether there is any, however long it is and whatever its bytes.
@@ -68,5 +64,5 @@ fn main(rt: HostRuntime) -> io::Result<()> {
     }
     let input = rt.stdin();
     usage::say_waiting_at_terminal(&mut err, &input)?;
-    finish_input(rt.alloc(), input, &mut rt.stdout())
+    finish_input(rt.alloc(), input, rt.stdout())
 }
