@@ -4,14 +4,14 @@
 
 use calls::{list_number, next};
 use std::io;
-use std::io::Read;
+use std::io::{Read, Write};
 
 // Replays the next call of the list, and says whether it answered and wrote what is recorded.
 fn is_next_replayed<R: Read>(input: &mut R) -> io::Result<bool> {
     let mut line = [0u8; 65536];
     let mut subtable = [0u8; 65536];
-    let r = next(input, &mut line, &mut subtable)?;
-    Ok(r.alike)
+    let remade = next(input, &mut line, &mut subtable)?;
+    Ok(remade.is_some_and(|r| r.alike))
 }
 
 // Replays so many calls, and answers how many were alike before the first that differs.
@@ -29,9 +29,9 @@ fn main(rt: HostRuntime) -> io::Result<()> {
     let mut out = rt.stdout();
     let count = list_number(&mut input)?;
     let alike = replayed(&mut input, count)?;
-    show::natural(&mut out, alike as u64)?;
     if alike == count {
-        return show::text(&mut out, b" calls replayed, all alike\n");
+        writeln!(out, "{alike} calls replayed, all alike")
+    } else {
+        writeln!(out, "{alike} calls replayed alike, then one that differs")
     }
-    show::text(&mut out, b" calls replayed alike, then one that differs\n")
 }
