@@ -1,6 +1,6 @@
 // The two axes and the four directions.
 ghost use Rattle.std.specs.Prelude.{◌≡◌};
-ghost use Rattle.slots.specs.Axis.{cross, forward, main, Numbered, other};
+ghost use Rattle.slots.specs.Axis.{cross, direction_of, forward, main, Numbered, other};
 
 #[derive(Clone, Copy, PartialEq, Eq)]
 pub enum Axis {
@@ -45,6 +45,13 @@ impl TryFrom<u32> for Direction {
             _ => Err(UnknownDirection),
         }
     }
+}
+
+// The direction of a number up to 3, and the last of any above.
+pub fn direction_of(n: u32) -> Direction
+    ensures { result ≡ direction_of n }
+{
+    Direction::try_from(n).unwrap_or(Direction::BottomToTop)
 }
 
 impl Direction {
