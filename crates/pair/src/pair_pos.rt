@@ -9,23 +9,23 @@ use tables::header::{COVERAGE_OFFSET, MOST_BYTES, POS_FORMAT, header_good};
 use values::format::record_len;
 
 // The fields of the header that both formats have after those of every subtable.
-const VALUE_FORMAT1: usize = 4;
+pub const VALUE_FORMAT1: usize = 4;
 
-const VALUE_FORMAT2: usize = 6;
+pub const VALUE_FORMAT2: usize = 6;
 
 // Format 1: how many pair sets, and where their offsets start.
-const PAIR_SET_COUNT: usize = 8;
+pub const PAIR_SET_COUNT: usize = 8;
 
-const PAIR_SET_OFFSETS: usize = 10;
+pub const PAIR_SET_OFFSETS: usize = 10;
 
 // Format 2: the class lists of the first and the second glyph, how many classes each has, and where the records start.
-const CLASS_DEF1_OFFSET: usize = 8;
+pub const CLASS_DEF1_OFFSET: usize = 8;
 
-const CLASS_DEF2_OFFSET: usize = 10;
+pub const CLASS_DEF2_OFFSET: usize = 10;
 
-const CLASS1_COUNT: usize = 12;
+pub const CLASS1_COUNT: usize = 12;
 
-const CLASS2_COUNT: usize = 14;
+pub const CLASS2_COUNT: usize = 14;
 
 pub const CLASS1_RECORDS: usize = 16;
 

@@ -7,7 +7,7 @@ use tables::header::{COVERAGE_OFFSET, MOST_BYTES, POS_FORMAT, header_good};
 use values::format::record_len;
 
 // The field of the header that both formats have after those of every subtable.
-const VALUE_FORMAT: usize = 4;
+pub const VALUE_FORMAT: usize = 4;
 
 // Format 1: the value record.
 const VALUE_RECORD: usize = 6;

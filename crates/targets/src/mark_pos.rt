@@ -11,13 +11,13 @@ use tables::part::table_at;
 // mark and mark2 for base.
 const MARK_COVERAGE_OFFSET: usize = 2;
 
-const BASE_COVERAGE_OFFSET: usize = 4;
+pub const BASE_COVERAGE_OFFSET: usize = 4;
 
-const MARK_CLASS_COUNT: usize = 6;
+pub const MARK_CLASS_COUNT: usize = 6;
 
-const MARK_ARRAY_OFFSET: usize = 8;
+pub const MARK_ARRAY_OFFSET: usize = 8;
 
-const BASE_ARRAY_OFFSET: usize = 10;
+pub const BASE_ARRAY_OFFSET: usize = 10;
 
 // The bytes of the header.
 const HEADER_BYTES: usize = 12;
