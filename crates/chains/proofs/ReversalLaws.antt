@@ -66,6 +66,10 @@ length_reversed_in (suc n) a ss i p =
     (λ j. length_turned a (slot ss i) (reversed_in n a (cleared ss i) j p) i j ∙ length_reversed_in n a (cleared ss i) j p ∙ cleared_count ss i)
     (cursive_bit (slot ss i).attach_type) (parent ss i)
 
+pub length_reversed : (a : Axis) (ss : List Slot) (i p : ℕ) → length (reversed a ss i p) ≡ length ss
+unfolding reversed
+length_reversed a ss i p = length_reversed_in (attached_count ss) a ss i p
+
 -- ---- the ways through
 -- a choice between two lines that are the same
 alike : (t : Bool) (ss : List Slot) → (if t then ss else ss) ≡ ss

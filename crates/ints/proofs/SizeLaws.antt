@@ -1,6 +1,6 @@
 -- Laws of an integer's absolute value. Assumes nothing.
 use mathlib.Core.Path.{◌≡◌, sym, ap, ◌∙◌}
-use Prim.Native.Nat.{suc, ◌+◌, ◌-◌, ◌≤◌}
+use Prim.Native.Nat.{ℕ, suc, ◌+◌, ◌-◌, ◌≤◌}
 use native.Mathlib.Omega.{arith}
 use lib.IntN.{ℤ, pos, negsuc, neg_ℤ, nat_abs, ◌+ℤ◌, ◌-ℤ◌}
 use lib.Signed.{mag}
@@ -33,6 +33,9 @@ abs_neg z = simp (abs_parts, up_neg, dn_neg) (omega arith)
 
 pub abs_sub : (z w : ℤ) → nat_abs (z -ℤ w) ≤ nat_abs z + nat_abs w
 abs_sub z w = omega (arith, abs_add z (neg_ℤ w), abs_neg w)
+
+pub abs_diff : (a b k : ℕ) → a ≤ b + k → b ≤ a + k → nat_abs (diff a b) ≤ k
+abs_diff a b k h l = simp (abs_parts, up_diff, dn_diff) (omega arith)
 
 -- how far apart two integers are, by their parts
 pub apart : (z y : ℤ) → nat_abs (z -ℤ y) ≡ ((up z + dn y) - (dn z + up y)) + ((dn z + up y) - (up z + dn y))

@@ -30,7 +30,7 @@ module _ {l t : List ℕ} {st : State} (ready : Ready l t st) where
       (subst (λ (c : ℕ). After c st.index (second ss st.index)) (length_slots st.lookup.shape l) (second_after ss st.index))
 
   -- the previous glyph, or the earlier mark, is before it
-  before_near : (k : Kind) → st.lookup.kind ≡ k → neighbour_for k ss st.index ≡ previous ss st.index → Before st.index st.near
+  pub before_near : (k : Kind) → st.lookup.kind ≡ k → neighbour_for k ss st.index ≡ previous ss st.index → Before st.index st.near
   before_near k is e = subst (Before st.index) (sym (near_as k is ∙ e)) (previous_before ss st.index)
 
   pub cursive_near : st.lookup.kind ≡ Cursive → Before st.index st.near

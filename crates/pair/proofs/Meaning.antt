@@ -23,7 +23,7 @@ use Rattle.pair.specs.declared.pair_set.Missed.TheVariants.{Nothing}
 use Rattle.pair.proofs.PairSetLaws.{probe_down, probe_hit, probe_over, probe_up}
 
 -- a probe that nothing cuts says so where there is nothing
-abbrev told : Option ℕ → Result ℕ Missed
+abbrev pub told : Option ℕ → Result ℕ Missed
 told o = ok_or o Nothing
 
 told_back : (o : Option ℕ) → result_ok (told o) ≡ o

@@ -6,6 +6,8 @@ use native.Mathlib.Omega.{arith}
 use Prim.Native.Nat.{ℕ, suc, ◌+◌, ◌≤◌}
 use lib.ListN.{length, drop, set, length-set}
 use Rattle.answers.specs.Said.{Range}
+use Rattle.answers.specs.declared.UpToTwo.{UpToTwo}
+use Rattle.answers.specs.declared.UpToTwo.TheVariants.{None, One, Two}
 use Rattle.records.specs.Records.{record_of, records_of, records, set_all}
 use Rattle.records.specs.declared.HazardRecord.{HazardRecord}
 
@@ -15,6 +17,12 @@ records_all [] h = refl
 records_all (a ∷ []) h = refl
 records_all (a ∷ b ∷ []) h = refl
 records_all (a ∷ b ∷ c ∷ rs) h = absurd (not-suc-le-zero (le_of_suc-le-suc (le_of_suc-le-suc h)))
+
+-- one single call has at most two records
+pub few : (hs : UpToTwo HazardRecord) → length (records hs) ≤ 2
+few None = omega arith
+few (One a) = omega arith
+few (Two a b) = omega arith
 
 -- ---- the list after records went into it
 pub length_set_all : (ys : List HazardRecord) (n : ℕ) (rs : List HazardRecord) → length (set_all ys n rs) ≡ length ys

@@ -239,6 +239,11 @@ module _ (i : ℕ) (f : Slot → Slot) (ss : List Slot) where
   unfolding update
   update_other j h = get_or-set_other ss i j (f (slot ss i)) no_slot h
 
+  -- two changes that agree on the slot are the same
+  pub update_as : (g : Slot → Slot) → f (slot ss i) ≡ g (slot ss i) → update i f ss ≡ update i g ss
+  unfolding update
+  update_as g e = ap (set ss i) e
+
   pub length_update : length (update i f ss) ≡ length ss
   unfolding update
   length_update = length-set ss i (f (slot ss i))

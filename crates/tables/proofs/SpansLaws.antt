@@ -30,7 +30,7 @@ side i m = go (dec_le m i)
 
 -- ---- ascending lists
 -- the spans from k on, of n in all, taken one off
-spans_step : (f : ℕ → Span) (k n : ℕ) → k < n → spans_from f k (n - k) ≡ f k ∷ spans_from f (k + 1) (n - (k + 1))
+pub spans_step : (f : ℕ → Span) (k n : ℕ) → k < n → spans_from f k (n - k) ≡ f k ∷ spans_from f (k + 1) (n - (k + 1))
 unfolding spans_from
 spans_step f k n h =
     let e : n - k ≡ suc (n - (k + 1)) = omega arith in

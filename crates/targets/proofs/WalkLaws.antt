@@ -3,7 +3,7 @@ use Rattle.std.specs.Prelude.{None, Some, if◌then◌else◌}
 use mathlib.Core.Path.{◌≡◌, refl, sym, ap, ◌∙◌}
 use mathlib.Core.Bool.{Bool, true, false}
 use mathlib.Core.List.{List}
-use Prim.Native.Nat.{ℕ, zero, suc, ◌+◌, ◌≤◌, ◌<◌}
+use Prim.Native.Nat.{ℕ, zero, suc, ◌+◌, ◌-◌, ◌≤◌, ◌<◌}
 use native.Mathlib.Omega.{arith}
 use lib.IntN.{ℤ}
 use lib.ListN.{length}
@@ -42,16 +42,22 @@ module _ (a : Axis) (ss : List Slot) where
   unfolding cross_offset_in
   walk_out n i sum h = let e : n ≡ 0 = omega arith in rw e
 
-  pub walk_turn : (n m i j : ℕ) (sum : ℤ) → n ≡ m + 1 → climb ss i ≡ InLine j
+  pub walk_turn : (n i : ℕ) (sum : ℤ) → 0 < n → (p : Parent) → climb ss i ≡ p
+      → cross_offset_in n a ss i sum ≡ by_parent p (Some sum) (Some sum) (λ j. cross_offset_in (n - 1) a ss j (sat_add sum (offset a (slot ss j))))
+  walk_turn n i sum more p e =
+      let one : n ≡ suc (n - 1) = omega arith in
+      ap (λ (m : ℕ). cross_offset_in m a ss i sum) one ∙ by_climb (n - 1) i sum p e
+
+  pub walk_on : (n m i j : ℕ) (sum : ℤ) → n ≡ m + 1 → climb ss i ≡ InLine j
       → cross_offset_in n a ss i sum ≡ cross_offset_in m a ss j (sat_add sum (offset a (slot ss j)))
-  walk_turn n m i j sum one e = let next : n ≡ suc m = omega arith in rw next (by_climb m i sum (InLine j) e)
+  walk_on n m i j sum one e = let next : n ≡ suc m = omega arith in rw next (by_climb m i sum (InLine j) e)
 
 pub walk_start : (a : Axis) (ss : List Slot) (i : ℕ) → cross_offset a ss i ≡ cross_offset_in (length ss) a ss i (offset a (slot ss i))
 unfolding cross_offset
 walk_start a ss i = refl
 
 -- what code's walk goes by
-pub ruleset walking = (length_slots, climb_in, walk_start, walk_turn)
+pub ruleset walking = (length_slots, climb_in, walk_start, walk_on)
 
 -- ---- a walk that has not ended
 -- a step taken first or last

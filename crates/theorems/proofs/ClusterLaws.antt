@@ -1,13 +1,14 @@
 -- Slots with other clusters: which reads don't see them, which changes commute with them, and what that says of clusters. Assumes nothing.
 use Rattle.std.specs.Prelude.{if◌then◌else◌}
-use mathlib.Core.Bool.{Bool, true, false, not}
+use mathlib.Core.Bool.{Bool, true, false, not, ◌||◌}
 use mathlib.Core.List.{List, [], ◌∷◌, map}
 use mathlib.Core.Path.{◌≡◌, refl, sym, ap, ap₂, ◌∙◌}
 use Prim.Native.Nat.{ℕ, zero, suc}
 use native.Mathlib.Omega.{arith}
 use lib.Dec.{eqb}
 use lib.IntN.{ℤ, pos, nat_abs}
-use lib.ListN.{length, length-map}
+use lib.ListN.{length, take, drop, length-map}
+use lib.Seq.{slice}
 use Rattle.slots.specs.Slot.{Slot}
 use Rattle.slots.specs.Line.{slot, update}
 use Rattle.slots.specs.Fields.{advance, measure, with_chain, with_cluster, with_measure}
@@ -22,7 +23,7 @@ use Rattle.slots.specs.declared.fields.Measure.TheVariants.{Advance, Offset}
 use Rattle.slots.specs.declared.parent.Parent.{Parent}
 use Rattle.slots.specs.declared.parent.Parent.TheVariants.{None, Outside, InLine}
 use Rattle.start.specs.Start.{started, unattached}
-use Rattle.checks.specs.Ranges.{bad_slots}
+use Rattle.checks.specs.Ranges.{bad_slots, some}
 use Rattle.lookup.proofs.IdentityLaws.{same_bad, same_length}
 
 -- ---- the slots with other clusters
@@ -40,6 +41,26 @@ slot_with i [] (s ∷ ss) = refl
 slot_with zero (c ∷ cs) (s ∷ ss) = refl
 slot_with (suc i) (c ∷ cs) (s ∷ ss) = slot_with i cs ss
 
+-- the first n slots
+pub take_keeps : (n : ℕ) → KeepsClusters (λ ss. take n ss)
+unfolding with_clusters
+take_keeps zero cs ss = refl
+take_keeps (suc n) cs [] = refl
+take_keeps (suc n) [] (s ∷ ss) = refl
+take_keeps (suc n) (c ∷ cs) (s ∷ ss) = ap (λ (r : List Slot). with_cluster c s ∷ r) (take_keeps n cs ss)
+
+-- the slots after the first n: as many clusters are dropped
+pub drop_with : (n : ℕ) (cs : List ℕ) (ss : List Slot) → drop n (with_clusters cs ss) ≡ with_clusters (drop n cs) (drop n ss)
+unfolding with_clusters
+drop_with zero cs ss = refl
+drop_with (suc n) cs [] = refl
+drop_with (suc n) [] (s ∷ ss) = sym (none_with (drop n ss))
+drop_with (suc n) (c ∷ cs) (s ∷ ss) = drop_with n cs ss
+
+-- a part of the slots
+pub slice_with : (i j : ℕ) (cs : List ℕ) (ss : List Slot) → slice i j (with_clusters cs ss) ≡ with_clusters (drop i cs) (slice i j ss)
+slice_with i j cs ss = ap (drop i) (take_keeps j cs ss) ∙ drop_with i cs (take j ss)
+
 -- ---- reads and changes put together
 module _ {A : Type 0} {read : List Slot → A} (b : Blind read) where
   -- a read by what was read
@@ -49,6 +70,14 @@ module _ {A : Type 0} {read : List Slot → A} (b : Blind read) where
   -- what a read is made into
   pub blind_as : {B : Type 0} (f : A → B) → Blind (λ ss. f (read ss))
   blind_as f cs ss = ap f (b cs ss)
+
+  -- a read after a change
+  pub blind_after : (change : List Slot → List Slot) → KeepsClusters change → Blind (λ ss. read (change ss))
+  blind_after change k cs ss = ap read (k cs ss) ∙ b cs (change ss)
+
+  -- a read of a part
+  pub slice_blind : (i j : ℕ) → Blind (λ ss. read (slice i j ss))
+  slice_blind i j cs ss = ap read (slice_with i j cs ss) ∙ b (drop i cs) (slice i j ss)
 
 -- no change
 pub same_keeps : KeepsClusters (λ ss. ss)
@@ -114,6 +143,13 @@ module _ {A : Type 0} (g : Slot → A) (h : SlotBlind g) where
   map_blind cs [] = refl
   map_blind [] (s ∷ ss) = refl
   map_blind (c ∷ cs) (s ∷ ss) = ap₂ (λ (a : A) (r : List A). a ∷ r) (h c s) (map_blind cs ss)
+
+-- whether some slot passes a test
+pub some_blind : (p : Slot → Bool) → SlotBlind p → Blind (some p)
+unfolding with_clusters some
+some_blind p h cs [] = refl
+some_blind p h [] (s ∷ ss) = refl
+some_blind p h (c ∷ cs) (s ∷ ss) = ap₂ ◌||◌ (h c s) (some_blind p h cs ss)
 
 -- what the slots are: their clusters are no part of that
 pub identities_blind : Blind identities
