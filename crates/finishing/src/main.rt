@@ -10,7 +10,7 @@ use slots::shape::{Shape, cut_of};
 use std::alloc::Global;
 use std::env::{Env, FillError};
 use std::io;
-use std::io::{BufWriter, Read, Write};
+use std::io::{Read, Write};
 
 // Above the longest line's 24,576 bytes.
 const MOST_READ: u64 = 65536;
@@ -37,17 +37,10 @@ fn finish<W: Write>(out: &mut W, line: &mut [u8]) -> io::Result<()> {
     }
 }
 
-// The rows go out together: `write!` gives a writer each number on its own.
-fn finish_input<R: Read + Drop, W: Write + Drop>(
-    alloc: Global,
-    input: R,
-    out: W,
-) -> io::Result<()> {
+fn finish_input<R: Read + Drop, W: Write>(alloc: Global, input: R, out: &mut W) -> io::Result<()> {
     let mut line = Vec::new(alloc);
     input.take(MOST_READ).read_to_end(&mut line)?;
-    let mut out = BufWriter::new(alloc, out)?;
-    finish(&mut out, &mut line)?;
-    out.flush()
+    finish(out, &mut line)
 }
 
 // Whether there is any, however long it is and whatever its bytes.
@@ -64,5 +57,5 @@ fn main(rt: HostRuntime) -> io::Result<()> {
     }
     let input = rt.stdin();
     usage::say_waiting_at_terminal(&mut err, &input)?;
-    finish_input(rt.alloc(), input, rt.stdout())
+    finish_input(rt.alloc(), input, &mut rt.stdout())
 }

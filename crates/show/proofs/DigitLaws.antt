@@ -1,14 +1,31 @@
--- Laws of decimal digits: how many a number takes, and which are written. Assumes nothing.
-use mathlib.Core.Path.{◌≡◌, refl, sym, ◌∙◌}
-use mathlib.Core.List.{List, [], ◌∷◌, ◌++◌, append_assoc}
-use mathlib.Core.Bool.{false}
-use Prim.Native.Nat.{ℕ, zero, suc, ◌-◌, ◌*◌, ◌/◌, ◌%◌, ◌^◌, ◌≤◌, ◌<◌}
-use native.Mathlib.Nat.{le_of_suc-le-suc, lt_of_not-le, pow-le-pow_right, pow-suc}
-use native.Mathlib.Numerals.{unary_clauses}
+-- Laws of decimal digits: how many a number takes, and writing them from the last to the first. Assumes nothing.
+use mathlib.Core.Path.{◌≡◌, refl, sym, ap, subst, ◌∙◌}
+use mathlib.Core.List.{List, [], ◌∷◌, ◌++◌}
+use Prim.Native.Nat.{ℕ, zero, suc, ◌+◌, ◌-◌, ◌*◌, ◌/◌, ◌%◌, ◌^◌, ◌≤◌, ◌<◌}
+use native.Mathlib.Nat.{div-div-eq-div-mul, div-lt_iff_lt-mul, le-div_iff_mul-le, le_of_suc-le-suc, lt_of_not-le, not-suc-le-zero, one-le-pow, pow-le-pow_right, pow-suc}
+use native.Mathlib.Numerals.{add-one, sub-one}
 use native.Mathlib.Omega.{arith}
-use lib.Dec.{eqb-suc-zero}
-use Rattle.std.specs.Fmt.{digits_onto}
+use lib.ListN.{length, take, drop, set}
+use lib.Seq.{slice, length-take-le, take-set-lt, append_snoc}
 use Rattle.show.specs.Digits.{hex_digit_ascii, last_digits, IsDigitCount}
+
+-- ---- how many digits a number takes
+-- one digit more is taken off
+pub again : (n k : ℕ) → n / 10 ^ k / 10 ≡ n / 10 ^ (k + 1)
+again n k = div-div-eq-div-mul n (10 ^ k) 10 ∙ ap (λ (d : ℕ). n / d) (sym (pow-suc 10 k) ∙ ap (λ (j : ℕ). 10 ^ j) (sym (add-one k)))
+
+-- something is left of n after k digits, so one more is wanted
+pub wanted : (n k : ℕ) → 0 < n / 10 ^ k → 10 ^ (k + 1 - 1) ≤ n
+wanted n k some =
+    let e : k ≡ k + 1 - 1 = omega arith in
+    let p : 1 * 10 ^ k ≤ n = (le-div_iff_mul-le (one-le-pow k 10 (omega arith))).0 some in
+    subst (λ (j : ℕ). 10 ^ j ≤ n) e (omega arith)
+
+-- nothing is left of n after k digits, so k digits hold it
+pub held : (n k : ℕ) → n / 10 ^ k < 1 → n < 10 ^ k
+held n k none =
+    let p : n < 1 * 10 ^ k = (div-lt_iff_lt-mul (one-le-pow k 10 (omega arith))).0 none in
+    omega arith
 
 -- where `most` digits hold n, the fewest are no more
 pub at_most : (n k most : ℕ) → IsDigitCount 10 1 n k → 1 ≤ most → n < 10 ^ most → k ≤ most
@@ -20,37 +37,23 @@ at_most n k most fewest some holds = le_of_suc-le-suc (lt_of_not-le not_more)
         let q : 10 ^ most ≤ 10 ^ (k - 1) = pow-le-pow_right (omega arith) (omega arith) in
         omega arith
 
--- the text is the fewest digits that hold n, and then the rest
-pub record Written (n : ℕ) (text rest : List ℕ) : Type 0 where
-  pub places : ℕ
-  pub fewest : IsDigitCount 10 1 n places
-  pub digits_are : text ≡ last_digits 10 places n ++ rest
+-- ---- writing them
+-- after a store at j, the list from j on begins with what was stored
+stored : (t : List ℕ) (j g : ℕ) → j < length t → drop j (set t j g) ≡ g ∷ drop (suc j) t
+stored [] j g h = absurd (not-suc-le-zero h)
+stored (x ∷ xs) zero g h = refl
+stored (x ∷ xs) (suc j) g h = stored xs j g (le_of_suc-le-suc h)
 
--- a digit more: the one that was taken off
-one_more : (n m k : ℕ) → n / 10 ≡ suc m → IsDigitCount 10 1 (suc m) k → IsDigitCount 10 1 n (suc k)
-one_more n m zero e f = absurd (omega arith)
-one_more n m (suc zero) e f = (omega arith, omega arith, λ _. omega arith)
-one_more n m (suc (suc k)) e f =
-    let least : 10 ^ k * 10 ≤ suc m = simp unary_clauses at f.2 (omega arith) in
-    (omega arith, omega (arith, pow-suc 10 (suc (suc k))), λ _. simp unary_clauses (omega arith))
-
-more : (n m : ℕ) (text rest : List ℕ) → n / 10 ≡ suc m → Written (suc m) text (hex_digit_ascii (n % 10) ∷ rest) → Written n text rest
-more n m text rest e w = record {
-  places = suc w.places;
-  fewest = one_more n m w.places e w.fewest;
-  digits_are = rw e (w.digits_are ∙ sym (append_assoc (last_digits 10 w.places (suc m)) (hex_digit_ascii (n % 10) ∷ []) rest));
-}
-
--- one digit, where no more is left
-one : (n room : ℕ) (rest : List ℕ) → n / 10 ≡ 0 → Written n (digits_onto (suc room) 10 false n rest) rest
-one n room rest e = rw e (record { places = 1; fewest = (omega arith, omega arith, λ b. absurd (omega arith)); digits_are = refl })
-
--- where the digits have room, they are written
-pub written : (room n : ℕ) (rest : List ℕ) → n < 10 ^ suc room → Written n (digits_onto (suc room) 10 false n rest) rest
-written zero n rest h = one n zero rest (omega arith)
-written (suc room) n rest h = by_rest (λ m r h. written room m r h) (n / 10) refl
-  where
-    by_rest : ((m : ℕ) (r : List ℕ) → m < 10 ^ suc room → Written m (digits_onto (suc room) 10 false m r) r)
-        → (m : ℕ) → n / 10 ≡ m → Written n (digits_onto (suc (suc room)) 10 false n rest) rest
-    by_rest before zero e = one n (suc room) rest e
-    by_rest before (suc m) e = rw (e, eqb-suc-zero m) (more n m _ rest e (before (suc m) _ (omega (arith, pow-suc 10 (suc room)))))
+-- a turn moves the last of the digits that are still to write to the front of those that are written
+pub moved : (i k rest g : ℕ) (out : List ℕ) → 0 < i → i ≤ k → k ≤ length out → g ≡ hex_digit_ascii (rest % 10)
+    → last_digits 10 (i - 1) (rest / 10) ++ slice (i - 1) k (set out (i - 1) g) ≡ last_digits 10 i rest ++ slice i k out
+moved zero k rest g out some h room e = absurd (not-suc-le-zero some)
+moved (suc j) k rest g out some h room e =
+    let todo = last_digits 10 j (rest / 10) in
+    let done = slice (suc j) k out in
+    let within : j < length (take k out) = subst (λ (n : ℕ). j < n) (sym (length-take-le k out room)) h in
+    ap (λ (m : ℕ). last_digits 10 m (rest / 10) ++ slice m k (set out m g)) (sub-one (suc j))
+    ∙ ap (λ (l : List ℕ). todo ++ drop j l) (take-set-lt k out j g h)
+    ∙ ap (λ (l : List ℕ). todo ++ l) (stored (take k out) j g within)
+    ∙ ap (λ (x : ℕ). todo ++ x ∷ done) e
+    ∙ sym (append_snoc todo (hex_digit_ascii (rest % 10)) done)

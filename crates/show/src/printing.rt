@@ -8,10 +8,10 @@ ghost use Rattle.slots.specs.code.Shape.{Inside};
 ghost use Rattle.slots.specs.Line.{slot, slots};
 ghost use Rattle.show.specs.Printed.{AppendsNumber, AppendsRow, done_line, refused_line};
 
+use crate::numbers::{MOST_TEXT, spell};
+use crate::rows::{MOST_ROW, row};
 use answers::Refusal;
 use ints::big_endian::Signed;
-use slots::axis::Axis;
-use slots::fields::{Measure, get};
 use slots::shape::Shape;
 use std::io;
 use std::io::Write;
@@ -32,7 +32,9 @@ pub fn natural<W: Write>(out: &mut W, n: u64) -> io::Result<()>
 pub fn integer<W: Write>(out: &mut W, v: Signed) -> io::Result<()>
     ensures { OnOk result (AppendsNumber (val v) (W.contents out.old) (W.contents out.new)) }
 {
-    write!(out, "{}", v.cast_signed())
+    let mut space = [0u8; MOST_TEXT];
+    let n = spell(v, &mut space);
+    text(out, &space[..n])
 }
 
 // A slot's number, advances and offsets, as a line.
@@ -40,11 +42,9 @@ pub fn slot<W: Write>(out: &mut W, line: &[u8], shape: Shape, i: usize) -> io::R
     requires { Inside shape line.now i × (i < half32) }
     ensures { OnOk result (AppendsRow i (slot (slots shape line.now) i) (W.contents out.old) (W.contents out.new)) }
 {
-    let x = get(line, shape, i, Measure::Advance, Axis::X).cast_signed();
-    let y = get(line, shape, i, Measure::Advance, Axis::Y).cast_signed();
-    let to_x = get(line, shape, i, Measure::Offset, Axis::X).cast_signed();
-    let to_y = get(line, shape, i, Measure::Offset, Axis::Y).cast_signed();
-    writeln!(out, "{i} {x} {y} {to_x} {to_y}")
+    let mut space = [0u8; MOST_ROW];
+    let n = row(line, shape, i, &mut space);
+    text(out, &space[..n])
 }
 
 // A refusal, with its number, as a line.
