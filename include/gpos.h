@@ -117,10 +117,10 @@
  *   - what a call writes (line, list, target of a move) overlaps nothing else that it is lent;
  *   - a lookup's list and lengths are aligned as C aligns them;
  *   - nobody else writes to what you lend, or reads what the call writes, while the call runs;
- *   - there is stack: gpos_cursive takes up to 632 bytes and 80 for each slot of the line, when an
- *     old chain goes through all of it (82,552 bytes for 1,024 slots); gpos_finish some 48 for each
+ *   - there is stack: gpos_cursive takes up to 648 bytes and 80 for each slot of the line, when an
+ *     old chain goes through all of it (82,568 bytes for 1,024 slots); gpos_finish some 48 for each
  *     level of the nesting limit, 3,152 at most; gpos_lookup took up to 1,432, and for type 3 some
- *     850 more than gpos_cursive; the other calls took up to 872 where they were measured, one call
+ *     800 more than gpos_cursive; the other calls took up to 888 where they were measured, one call
  *     of each, applied or done. No proof covers the depth of the stack.
  *
  * Everything else may have any value: every number is tested, and every byte of line and subtable

@@ -121,9 +121,9 @@
 //!
 //! # Stack and time
 //!
-//! [`cursive`] takes 632 bytes of stack and 80 for each slot of an old chain, 82,552 for one through 1,024 slots;
-//! [`finish`] takes up to 3,152, [`lookup`] took up to 1,432, for type 3 some 850 more than [`cursive`], and the others
-//! up to 872, where they were measured. Every call reads all slots, and an applying one every coverage and class list
+//! [`cursive`] takes 648 bytes of stack and 80 for each slot of an old chain, 82,568 for one through 1,024 slots;
+//! [`finish`] takes up to 3,152, [`lookup`] took up to 1,432, for type 3 some 800 more than [`cursive`], and the others
+//! up to 888, where they were measured. Every call reads all slots, and an applying one every coverage and class list
 //! of its subtable, before it does anything: a call costs as much as they are long, even where it declines.
 //! [`lookup`] does both once for the whole line.
 //!

@@ -58,6 +58,7 @@ pub fn check_call(
 }
 
 // Refusals 1 to 6 of an applying call. A subtable that didn't pass its check is none.
+#[inline(always)]
 pub fn check_applying<T: Copy>(
     line: &[u8],
     size: usize,

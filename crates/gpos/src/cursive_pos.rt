@@ -22,8 +22,8 @@ pub fn cursive(
     ensures { CursiveCall size line.old subtable.now direction s u index previous flag result
         line.new }
 {
-    let checked = CursivePos::new(subtable);
-    let (shape, frame, subtable) = check_applying(
+    // The subtable comes last, since its lists may be long.
+    let (shape, frame, ()) = check_applying(
         line,
         size,
         direction,
@@ -31,7 +31,8 @@ pub fn cursive(
         u,
         index,
         Beside::Previous(previous),
-        checked,
+        Some(()),
     )?;
+    let subtable = CursivePos::new(subtable).ok_or(Refusal::Subtable)?;
     Ok(cursive::attachment::apply(line, shape, frame, subtable, index, previous, flag))
 }

@@ -24,8 +24,8 @@ fn mark(
     ensures { MarkCall way size line.old subtable.now direction s u index result
         line.new }
 {
-    let checked = MarkPos::new(subtable);
-    let (shape, frame, subtable) = check_applying(
+    // The subtable comes last, since its lists may be long.
+    let (shape, frame, ()) = check_applying(
         line,
         size,
         direction,
@@ -33,8 +33,9 @@ fn mark(
         u,
         index,
         beside_of(way),
-        checked,
+        Some(()),
     )?;
+    let subtable = MarkPos::new(subtable).ok_or(Refusal::Subtable)?;
     marks::attachment::apply(line, shape, frame, subtable, way, index)
 }
 

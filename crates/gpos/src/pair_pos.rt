@@ -21,8 +21,8 @@ pub fn pair(
     ensures { PairCall size line.old subtable.now direction s u index second result
         line.new }
 {
-    let checked = PairPos::new(subtable);
-    let (shape, frame, subtable) = check_applying(
+    // The subtable comes last, since its lists may be long.
+    let (shape, frame, ()) = check_applying(
         line,
         size,
         direction,
@@ -30,7 +30,8 @@ pub fn pair(
         u,
         index,
         Beside::Second(second),
-        checked,
+        Some(()),
     )?;
+    let subtable = PairPos::new(subtable).ok_or(Refusal::Subtable)?;
     Ok(pair::adjustment::apply(line, shape, frame, subtable, index, second))
 }

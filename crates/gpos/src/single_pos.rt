@@ -19,8 +19,8 @@ pub fn single(
     ensures { SingleCall size line.old subtable.now direction s u index result
         line.new }
 {
-    let checked = SinglePos::new(subtable);
-    let (shape, frame, subtable) = check_applying(
+    // The subtable comes last, since its lists may be long.
+    let (shape, frame, ()) = check_applying(
         line,
         size,
         direction,
@@ -28,7 +28,8 @@ pub fn single(
         u,
         index,
         Beside::Nothing,
-        checked,
+        Some(()),
     )?;
+    let subtable = SinglePos::new(subtable).ok_or(Refusal::Subtable)?;
     Ok(single::adjustment::apply(line, shape, frame, subtable, index))
 }
