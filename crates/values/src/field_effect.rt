@@ -26,15 +26,15 @@ impl Effect {
     }
 }
 
-const SKIPPED: Effect = Effect::Skip;
+pub const SKIPPED: Effect = Effect::Skip;
 
-const ADD_X_OFFSET: Effect = Effect::Add(Measure::Offset, Axis::X);
+pub const ADD_X_OFFSET: Effect = Effect::Add(Measure::Offset, Axis::X);
 
-const ADD_Y_OFFSET: Effect = Effect::Add(Measure::Offset, Axis::Y);
+pub const ADD_Y_OFFSET: Effect = Effect::Add(Measure::Offset, Axis::Y);
 
-const ADD_X_ADVANCE: Effect = Effect::Add(Measure::Advance, Axis::X);
+pub const ADD_X_ADVANCE: Effect = Effect::Add(Measure::Advance, Axis::X);
 
-const SUB_Y_ADVANCE: Effect = Effect::Subtract(Measure::Advance, Axis::Y);
+pub const SUB_Y_ADVANCE: Effect = Effect::Subtract(Measure::Advance, Axis::Y);
 
 // A row for each direction, in the order of `Direction`. In a row the fields are in the order of their bits: the
 // placements, the advances, four device offsets.
