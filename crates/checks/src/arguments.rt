@@ -57,7 +57,8 @@ pub fn check_call(
     Ok((shape, Frame { direction, scale }))
 }
 
-// Refusals 1 to 6 of an applying call. A subtable that didn't pass its check is none.
+// Refusals 1 to 6 of an applying call. A subtable that didn't pass its check is none; the calls of gpos give `Some(())`
+// and check theirs afterwards. In line: as one function for four calls it costs each 28 to 53 instructions.
 #[inline(always)]
 pub fn check_applying<T: Copy>(
     line: &[u8],
