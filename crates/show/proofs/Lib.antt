@@ -1,3 +1,4 @@
 pub mod DigitLaws
 pub mod TextLaws
+pub mod StdLaws
 pub mod Examples
